@@ -1,12 +1,18 @@
--- Stores one after the other are a number's bytes laid at a place. Rests on the fields' definitions and the library's laws of `set`.
-use mathlib.Core.Path.{_≡_}
-use mathlib.Core.List.{List, [], _∷_}
-use Prim.Native.Nat.{ℕ, _+_, _/_, _%_, _≤_}
-use native.Mathlib.Numerals.{towards-suc}
+-- Stores one after the other are bytes laid at a place; two pieces laid side by side are one piece; and a number laid is
+-- the number read back. Rests on the fields' definitions and the library's laws of lists.
+use mathlib.Core.Path.{_≡_, sym, ap, _∙_}
+use mathlib.Core.List.{List, [], _∷_, _++_, append-assoc}
+use Prim.Native.Nat.{ℕ, _+_, _/_, _%_, _≤_, _<_}
+use native.Mathlib.Numerals.{towards-suc, add-one}
+use native.Mathlib.Nat.{zero-add}
 use native.Mathlib.Omega.{arith}
-use lib.ListN.{length, set}
-use lib.Seq.{sets-eq}
+use lib.ListN.{length, getD, set, take, drop, length-append}
+use lib.Seq.{sets-eq, paste, paste-suc, length-paste, length-take-le, take-length, take-at, drop-at, drop-drop}
 use Rattle.fields.specs.Fields.{be2, be4, bytes2, bytes4, laid}
+
+pub lay1 : (d : List ℕ) (at v : ℕ) → at + 1 ≤ length d → set d at v ≡ laid d at (v ∷ [])
+unfolding laid
+lay1 d at v h = sets-eq (v ∷ []) d at h
 
 pub lay2 : (d : List ℕ) (at v : ℕ) → at + 2 ≤ length d → set (set d at (v / 256 % 256)) (at + 1) (v % 256) ≡ laid d at (bytes2 v)
 unfolding bytes2 laid
@@ -16,3 +22,44 @@ pub lay4 : (d : List ℕ) (at v : ℕ) → at + 4 ≤ length d
     → set (set (set (set d at (v / 256 / 256 / 256 % 256)) (at + 1) (v / 256 / 256 % 256)) (at + 2) (v / 256 % 256)) (at + 3) (v % 256) ≡ laid d at (bytes4 v)
 unfolding bytes4 laid
 lay4 d at v h = simp towards-suc (simp towards-suc at (sets-eq ((v / 256 / 256 / 256 % 256) ∷ (v / 256 / 256 % 256) ∷ (v / 256 % 256) ∷ (v % 256) ∷ []) d at h))
+
+-- One byte more of a copy.
+pub lay-more : (d : List ℕ) (at : ℕ) (w : List ℕ) (i : ℕ) (x : List ℕ) → at + length w ≤ length d → i < length w → x ≡ paste d at w i
+    → set x (at + i) (getD w i 0) ≡ paste d at w (i + 1)
+lay-more d at w i x room inside e =
+    rw (e, add-one i) (paste-suc d at w i 0 (omega arith) inside)
+
+-- A copy of all of w is w laid.
+pub lay-all : (d : List ℕ) (at : ℕ) (w : List ℕ) → paste d at w (length w) ≡ laid d at w
+unfolding laid
+lay-all d at w = rw (take-length w)
+
+-- A piece w laid where the first n bytes end.
+behind : (front rest w : List ℕ) (n : ℕ) → length front ≡ n
+    → take n (front ++ rest) ++ w ++ drop (n + length w) (front ++ rest) ≡ front ++ w ++ drop (length w) rest
+behind front rest w n size =
+    ap (λ (x : List ℕ). x ++ w ++ drop (n + length w) (front ++ rest)) (take-at front rest n size)
+    ∙ ap (λ (x : List ℕ). front ++ w ++ x)
+    (sym (drop-drop (length w) n (front ++ rest)) ∙ ap (drop (length w)) (drop-at front rest n size))
+
+module _ (d : List ℕ) (at : ℕ) where
+  pub length-laid : (w : List ℕ) → at + length w ≤ length d → length (laid d at w) ≡ length d
+  unfolding laid
+  length-laid w h = rw (← lay-all d at w) (length-paste d at w (length w) h (omega arith))
+
+  -- A piece laid right behind another is one piece.
+  pub laid-next : (v w : List ℕ) → at + length v ≤ length d → laid (laid d at v) (at + length v) w ≡ laid d at (v ++ w)
+  unfolding laid
+  laid-next v w h =
+      let rest = drop (at + length v) d in
+      let size : length (take at d ++ v) ≡ at + length v =
+      omega (arith, length-append (take at d) v, length-take-le at d (omega arith)) in
+      let ends : at + length v + length w ≡ at + length (v ++ w) = omega (arith, length-append v w) in
+      behind (take at d ++ v) rest w (at + length v) size
+      ∙ ap (λ (x : List ℕ). take at d ++ v ++ w ++ x) (drop-drop (length w) (at + length v) d ∙ ap (λ (k : ℕ). drop k d) ends)
+      ∙ ap (λ (x : List ℕ). x ++ drop (at + length (v ++ w)) d) (append-assoc (take at d) v w)
+
+-- What is laid from the start on is followed by what the buffer held there.
+pub laid-start : (d w : List ℕ) → laid d 0 w ≡ w ++ drop (length w) d
+unfolding laid
+laid-start d w = rw (zero-add (length w))
