@@ -2,12 +2,12 @@
 -- the number read back. Rests on the fields' definitions and the library's laws of lists.
 use mathlib.Core.Path.{_≡_, sym, ap, _∙_}
 use mathlib.Core.List.{List, [], _∷_, _++_, append-assoc}
-use Prim.Native.Nat.{ℕ, _+_, _/_, _%_, _≤_, _<_}
+use Prim.Native.Nat.{ℕ, _+_, _-_, _*_, _/_, _%_, _≤_, _<_}
 use native.Mathlib.Numerals.{towards-suc, add-one}
 use native.Mathlib.Nat.{zero-add}
 use native.Mathlib.Omega.{arith}
-use lib.ListN.{length, getD, set, take, drop, length-append}
-use lib.Seq.{sets-eq, paste, paste-suc, length-paste, length-take-le, take-length, take-at, drop-at, drop-drop}
+use lib.ListN.{length, getD, set, take, drop, length-append, length-drop}
+use lib.Seq.{sets-eq, paste, paste-suc, length-paste, length-take-le, take-all, take-length, take-at, drop-at, drop-drop, drop-cons}
 use Rattle.fields.specs.Fields.{be2, be4, bytes2, bytes4, laid}
 
 pub lay1 : (d : List ℕ) (at v : ℕ) → at + 1 ≤ length d → set d at v ≡ laid d at (v ∷ [])
@@ -63,3 +63,57 @@ module _ (d : List ℕ) (at : ℕ) where
 pub laid-start : (d w : List ℕ) → laid d 0 w ≡ w ++ drop (length w) d
 unfolding laid
 laid-start d w = rw (zero-add (length w))
+
+-- The part of a slice from place k to its end.
+pub rest-whole : (s : List ℕ) (k : ℕ) → take (length s - k) (drop k s) ≡ drop k s
+rest-whole s k = take-all (length s - k) (drop k s) (omega (arith, length-drop k s))
+
+-- A number laid is read back.
+pub be2-bytes2 : (v : ℕ) (rest : List ℕ) → v < 65536 → be2 (bytes2 v ++ rest) 0 ≡ v
+unfolding be2 bytes2
+be2-bytes2 v rest h = omega arith
+
+pub be4-bytes4 : (v : ℕ) (rest : List ℕ) → v < 4294967296 → be4 (bytes4 v ++ rest) 0 ≡ v
+unfolding be4 bytes4
+be4-bytes4 v rest h = omega arith
+
+-- What a byte is.
+abbrev pub Bytes : List ℕ → Type 0
+Bytes s = (i : ℕ) → getD s i 0 < 256
+
+-- A list from place k on is its byte there, and the list from the next place on.
+next : (s : List ℕ) (k m : ℕ) → k + 1 ≡ m → k < length s → drop k s ≡ getD s k 0 ∷ drop m s
+next s k m e h = drop-cons s k 0 h ∙ ap (λ (j : ℕ). getD s k 0 ∷ drop j s) (sym (add-one k) ∙ e)
+
+module _ (s : List ℕ) (b : Bytes s) (at : ℕ) where
+  -- A number read has the bytes that it was read from.
+  pub bytes2-be2 : at + 2 ≤ length s → bytes2 (be2 s at) ++ drop (at + 2) s ≡ drop at s
+  unfolding be2 bytes2
+  bytes2-be2 h =
+      let x = getD s at 0 in
+      let y = getD s (at + 1) 0 in
+      let hx : (x * 256 + y) / 256 % 256 ≡ x = omega (arith, b at, b (at + 1)) in
+      let hy : (x * 256 + y) % 256 ≡ y = omega (arith, b (at + 1)) in
+      rw (hx, hy)
+      (sym (next s at (at + 1) (omega arith) (omega arith)
+      ∙ ap (λ (r : List ℕ). x ∷ r) (next s (at + 1) (at + 2) (omega arith) (omega arith))))
+
+  pub bytes4-be4 : at + 4 ≤ length s → bytes4 (be4 s at) ++ drop (at + 4) s ≡ drop at s
+  unfolding be4 bytes4
+  bytes4-be4 h =
+      let x = getD s at 0 in
+      let y = getD s (at + 1) 0 in
+      let z = getD s (at + 2) 0 in
+      let w = getD s (at + 3) 0 in
+      let v = ((x * 256 + y) * 256 + z) * 256 + w in
+      let three : v / 256 ≡ (x * 256 + y) * 256 + z = omega (arith, b (at + 3)) in
+      let two : ((x * 256 + y) * 256 + z) / 256 ≡ x * 256 + y = omega (arith, b (at + 2)) in
+      let hx : (x * 256 + y) / 256 % 256 ≡ x = omega (arith, b at, b (at + 1)) in
+      let hy : (x * 256 + y) % 256 ≡ y = omega (arith, b (at + 1)) in
+      let hz : ((x * 256 + y) * 256 + z) % 256 ≡ z = omega (arith, b (at + 2)) in
+      let hw : v % 256 ≡ w = omega (arith, b (at + 3)) in
+      rw (three, two, hx, hy, hz, hw)
+      (sym (next s at (at + 1) (omega arith) (omega arith)
+      ∙ ap (λ (r : List ℕ). x ∷ r) (next s (at + 1) (at + 2) (omega arith) (omega arith)
+      ∙ ap (λ (r : List ℕ). y ∷ r) (next s (at + 2) (at + 3) (omega arith) (omega arith)
+      ∙ ap (λ (r : List ℕ). z ∷ r) (next s (at + 3) (at + 4) (omega arith) (omega arith))))))

@@ -1,2 +1,5 @@
 -- Laws of list images that belong to no one function.
 pub mod Searches
+pub mod Answers
+pub mod Outcomes
+pub mod Laying

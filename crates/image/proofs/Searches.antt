@@ -8,7 +8,7 @@ use lib.Dec.{eqb}
 use borrow.Author.Tests.{eq-eqb, ne-eqb}
 use Rattle.rules.specs.Choose.{choose}
 use Rattle.image.specs.Rows.{nameAt, releaseAt}
-use Rattle.image.specs.Refusals.{refused, named, releaseBefore, rowFault, rowsFrom}
+use Rattle.image.specs.Refusals.{refused, accepted, named, releaseBefore, rowFault, rowsFrom}
 
 -- A number above 0 is one more than the number before it.
 pub suc-pred : (i : ℕ) → 0 < i → i ≡ suc (i - 1)
@@ -53,3 +53,8 @@ module _ (rs : List ℕ) where
   pub rows-stop : (n i : ℕ) → i < n → (rowFault rs i ≡ 0 → ⊥) → rowsFrom rs (n - i) i ≡ refused (rowFault rs i) (i + 1)
   unfolding rowsFrom choose
   rows-stop n i h e = rw (left-suc n i h, ne-eqb (rowFault rs i) 0 e)
+
+  -- No row is left.
+  pub rows-end : (n i : ℕ) → n ≤ i → rowsFrom rs (n - i) i ≡ accepted 0 0
+  unfolding rowsFrom
+  rows-end n i h = let e : n - i ≡ 0 = omega arith in rw e

@@ -60,7 +60,7 @@ pub fn read(list: &[u8], rows: &mut [u8]) -> Answer
     if rows.len() < size {
         return refused(12, 0);
     }
-    bytes::copy(&list[7..], rows);
+    fields::put_all(rows, 0, &list[7..]);
     accepted(0, size as u16)
 }
 
@@ -71,9 +71,9 @@ fn lay_image(rows: &[u8], list: &mut [u8])
 {
     let size = rows.len();
     fields::put4(list, 0, (3 + size) as u32);
-    list[4] = 1;
+    fields::put1(list, 4, 1);
     fields::put2(list, 5, (size / 14) as u32);
-    bytes::copy(rows, &mut list[7..]);
+    fields::put_all(list, 7, rows);
 }
 
 // Writes the image of rows that are given as bytes, 14 each.

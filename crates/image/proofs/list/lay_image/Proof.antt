@@ -1,3 +1,5 @@
+-- `image::list::lay_image` meets its contract: its four pieces lie side by side.
+use Rattle.image.proofs.Laying.{image-laid}
 use borrow.Author.Needs.{needs}
 use Rattle.image.proofs.list.lay_image.Statement.{statement}
 use Rattle.image.proofs.list.lay_image.Tie as tie
@@ -11,32 +13,27 @@ cast-put4 c = search needs
 put4-requires : tie.Need-put4-requires
 put4-requires c κs = search needs
 
-slice-write-list : tie.Need-slice-write-list
-slice-write-list c = search needs
+put1-requires : tie.Need-put1-requires
+put1-requires c κs = search needs
 
 cast-put2 : tie.Need-cast-put2
 cast-put2 c = search needs
 
 put2-requires : tie.Need-put2-requires
-put2-requires c κs = ?
+put2-requires c κs = search needs
 
-sub-copy : tie.Need-sub-copy
-sub-copy c = ?
-
-part-copy-start : tie.Need-part-copy-start
-part-copy-start c = ?
-
-part-copy-end : tie.Need-part-copy-end
-part-copy-end c = search needs
-
-copy-requires : tie.Need-copy-requires
-copy-requires c κs = ?
+put-all-requires : tie.Need-put-all-requires
+put-all-requires c κs = search needs
 
 same-length : tie.Need-same-length
-same-length c = ?
+same-length c = search needs
 
 returns : tie.Need-returns
-returns c = ?
+returns c = image-laid _ _ _ _ _ _ (c .before .before .before .before .before .before .before .before .before .before .before .before .before .before .before .before .before .before .pre .0)
+    (c .before .before .before .before .before .before .before .before .before .before .before .before .before .before .put4 .ensures)
+    (c .before .before .before .before .before .before .before .before .before .before .put1 .ensures)
+    (c .before .before .before .before .before .before .put2 .ensures)
+    (c .before .before .put-all .ensures)
 
 pub lay-image-spec : {M : Type 1} → statement M
 lay-image-spec =
@@ -45,12 +42,9 @@ lay-image-spec =
     add-put4
     cast-put4
     put4-requires
-    slice-write-list
+    put1-requires
     cast-put2
     put2-requires
-    sub-copy
-    part-copy-start
-    part-copy-end
-    copy-requires
+    put-all-requires
     same-length
     returns)

@@ -1,3 +1,5 @@
+-- `image::rows::row_fault` meets its contract: each number read is the one that the definition names.
+use Rattle.image.specs.Refusals.{rowFault}
 use borrow.Author.Needs.{needs}
 use Rattle.image.proofs.rows.row_fault.Statement.{statement}
 use Rattle.image.proofs.rows.row_fault.Tie as tie
@@ -36,7 +38,8 @@ number-of-requires : tie.Need-number-of-requires
 number-of-requires c κs = search needs
 
 returns : tie.Need-returns
-returns c = ?
+unfolding rowFault
+returns c = cc
 
 pub row-fault-spec : {M : Type 1} → statement M
 row-fault-spec =
