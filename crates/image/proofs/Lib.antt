@@ -3,3 +3,6 @@ pub mod Searches
 pub mod Answers
 pub mod Outcomes
 pub mod Laying
+pub mod GoodRows
+pub mod Accepted
+pub mod RoundTrip
