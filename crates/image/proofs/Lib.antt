@@ -6,3 +6,4 @@ pub mod Laying
 pub mod GoodRows
 pub mod Accepted
 pub mod RoundTrip
+pub mod Plain
