@@ -1,4 +1,4 @@
--- Case analysis on the tests of the rules: a `choose` by its test, and what a passed or failed `_&&_` tells.
+-- Case analysis on the tests of the rules: a `choose` by its test, of one part or of two.
 -- Every proof about a step that tests something goes through here. Rests on Choose of the rules.
 use mathlib.Core.Path.{_≡_, refl}
 use mathlib.Core.Bool.{Bool, true, false, _&&_, false≢true}
@@ -9,10 +9,10 @@ unfolding choose
 by-test P true f g = f refl
 by-test P false f g = g refl
 
-pub both-true : (a b : Bool) → (a && b) ≡ true → (a ≡ true) × (b ≡ true)
-both-true true b e = (refl, e)
-both-true false b e = absurd (false≢true e)
-
-pub not-both : (a b : Bool) → (a && b) ≡ false → a ≡ true → b ≡ false
-not-both true b e f = e
-not-both false b e f = absurd (false≢true f)
+-- A test of two parts passes where both pass; where it fails, the second fails if the first passes.
+pub by-both : {A : Type 0} (P : A → Type 0) (a b : Bool) {x y : A} → (a ≡ true → b ≡ true → P x) → ((a ≡ true → b ≡ false) → P y)
+    → P (choose (a && b) x y)
+unfolding choose
+by-both P true true f g = f refl refl
+by-both P true false f g = g (λ _. refl)
+by-both P false b f g = g (λ e. absurd (false≢true e))

@@ -6,3 +6,7 @@ pub mod Stack
 pub mod Steps
 pub mod Wf
 pub mod WfKept
+pub mod WithinTick
+pub mod Sums
+pub mod Fuel
+pub mod Always

@@ -10,19 +10,27 @@ use lib.ListN.{getD}
 use borrow.Author.Tests.{eq-eqb, ne-eqb}
 use Rattle.rules.specs.Choose.{choose}
 use Rattle.rules.specs.State.{Row, Proc, Entry, noRow, idle, running}
+use Rattle.promises.proofs.Choose.{by-test}
 use Rattle.promises.proofs.Rows.{at-and-beside, Same}
 
 -- 1 where the two numbers are one, else 0.
 unfoldable pub same : ℕ → ℕ → ℕ
 same j i = choose (eqb j i) 1 0
 
-pub same-self : (i : ℕ) → same i i ≡ 1
+pub same-eq : (j i : ℕ) → j ≡ i → same j i ≡ 1
 unfolding same choose
-same-self i = rw (eq-eqb i i refl, choose)
+same-eq j i e = rw (eq-eqb j i e, choose)
+
+pub same-self : (i : ℕ) → same i i ≡ 1
+same-self i = same-eq i i refl
 
 pub same-other : (j i : ℕ) → j ≢ i → same j i ≡ 0
 unfolding same choose
 same-other j i n = rw (ne-eqb j i n, choose)
+
+pub same-small : (j i : ℕ) → same j i ≤ 1
+unfolding same
+same-small j i = by-test (λ (n : ℕ). n ≤ 1) (eqb j i) (λ _. omega arith) (λ _. omega arith)
 
 -- How often row j stands in a list of rows.
 unfoldable pub occurs : ℕ → List ℕ → ℕ
@@ -96,5 +104,16 @@ below-lax rows t d b (e ∷ es) h k i o =
     (e .row)
     (λ _. omega (arith, k .0, below-fits rows t _ _ es (k .1)))
     (λ j n o′. below-lax rows t _ _ es (omega (arith, k .0)) (k .1) j (omega (arith, same-other j (e .row) n)))
+    i
+    o
+
+-- A delayed row's cost is part of the held value.
+pub held-covers : (rows : List Row) (es : List Entry) (i : ℕ) → 1 ≤ occurs i (rowsOf es) → getD rows i noRow .job .cost ≤ heldBy rows es
+unfolding occurs rowsOf heldBy
+held-covers rows [] i o = absurd (omega arith)
+held-covers rows (e ∷ es) i o =
+    at-and-beside (λ (j : ℕ). 1 ≤ occurs j (e .row ∷ rowsOf es) → getD rows j noRow .job .cost ≤ heldBy rows (e ∷ es)) (e .row)
+    (λ _. omega arith)
+    (λ j n o′. omega (arith, held-covers rows es j (omega (arith, same-other j (e .row) n))))
     i
     o

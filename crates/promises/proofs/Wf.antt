@@ -6,10 +6,10 @@ use mathlib.Core.Path.{_≡_, refl, ap, subst, _∙_}
 use mathlib.Core.List.{List, []}
 use lib.ListN.{length, getD}
 use Rattle.rules.specs.Job.{Job}
-use Rattle.rules.specs.State.{Fate, Row, Proc, State, noRow, rowOf, deadlineOf, leftOf, waiting, taken, finished, dropped, idle, running}
+use Rattle.rules.specs.State.{Fate, Row, Proc, State, noRow, rowOf, costOf, deadlineOf, leftOf, waiting, taken, finished, dropped, idle, running}
 use Rattle.promises.specs.Lawful.{Waits}
 use Rattle.promises.proofs.Rows.{at-and-beside, inside}
-use Rattle.promises.proofs.Stack.{same, same-self, same-other, occurs, rowsOf, stackOf, heldBy, Below, below-fits, below-lax}
+use Rattle.promises.proofs.Stack.{same, same-self, same-other, occurs, rowsOf, stackOf, heldBy, Below, below-fits, below-lax, held-covers}
 use Rattle.promises.proofs.Steps.{Phase, opening, offering, announcing, deciding}
 
 -- A waiting job is not through, and could still be by its deadline if it ran now: its latest start is at least t.
@@ -167,3 +167,11 @@ taken-lax {ph} {t} {r} {s} w e =
 -- The running row is taken.
 pub running-taken : {ph : Phase} {t r : ℕ} {s : State} → Wf ph t s → s .proc ≡ running r → rowOf s r .fate ≡ taken
 running-taken {r = r} {s = s} w e = if-taken (rowOf s r .fate) (omega (arith, once-running w e r, same-self r))
+
+-- A taken row costs no more than the running one and the held value together.
+pub taken-cost : {ph : Phase} {t r : ℕ} {s : State} → Wf ph t s → s .proc ≡ running r → (j : ℕ) → rowOf s j .fate ≡ taken
+    → costOf s j ≤ costOf s r + s .held
+unfolding ifTaken
+taken-cost {r = r} {s = s} w e =
+    at-and-beside (λ (j : ℕ). rowOf s j .fate ≡ taken → costOf s j ≤ costOf s r + s .held) r (λ _. omega arith)
+    (λ j n f. omega (arith, w .held, held-covers (s .rows) (s .delayed) j (omega (arith, same-other j r n, once-running w e j, ap ifTaken f))))
