@@ -10,3 +10,4 @@ pub mod WithinTick
 pub mod Sums
 pub mod Fuel
 pub mod Always
+pub mod Room
