@@ -11,3 +11,6 @@ pub mod Sums
 pub mod Fuel
 pub mod Always
 pub mod Room
+pub mod Jobs
+pub mod Announced
+pub mod End

@@ -2,7 +2,7 @@
 -- row, of the stack, of held value and of room. That every sub-step keeps it is proved in WfKept. Rests on Stack and Steps.
 use Prim.Native.Nat.{ℕ, _+_, _≤_, _<_}
 use native.Mathlib.Omega.{arith}
-use mathlib.Core.Path.{_≡_, refl, ap, subst, _∙_}
+use mathlib.Core.Path.{_≡_, refl, sym, ap, subst, _∙_}
 use mathlib.Core.List.{List, []}
 use lib.ListN.{length, getD}
 use Rattle.rules.specs.Job.{Job}
@@ -175,3 +175,8 @@ unfolding ifTaken
 taken-cost {r = r} {s = s} w e =
     at-and-beside (λ (j : ℕ). rowOf s j .fate ≡ taken → costOf s j ≤ costOf s r + s .held) r (λ _. omega arith)
     (λ j n f. omega (arith, w .held, held-covers (s .rows) (s .delayed) j (omega (arith, same-other j r n, once-running w e j, ap ifTaken f))))
+
+-- While nothing runs, no row is taken.
+pub idle-not-taken : {ph : Phase} {t : ℕ} {s : State} → Wf ph t s → s .proc ≡ idle → (j : ℕ) → ifTaken (rowOf s j .fate) ≡ 0
+unfolding occurs rowsOf stackOf
+idle-not-taken w e j = let d = resting w e .nothingDelayed in sym (w .once j) ∙ cc

@@ -17,7 +17,7 @@ use Rattle.promises.specs.Lawful.{Waits, Due, IsFirst}
 use Rattle.promises.proofs.Rows.{all-set, set-keeps, Same, same-mark, all-append, same-append, same-beside, getD-displaced, same-displaced}
 use Rattle.promises.proofs.Stack.{same-self, same-other, occurs, rowsOf, stackOf, heldBy, Under, Below, below-keeps, held-keeps, below-fits}
 use Rattle.promises.proofs.Steps.{Phase, Step, NothingDue, opening, offering, announcing, deciding, rests, runsOn, idles, startsFirst, resumes, resumesOffering, starts, preempts, waitsOn, appears, decides, takesOver, isDropped}
-use Rattle.promises.proofs.Wf.{WaitingOk, FateOk, RowOk, fate-ok, ifTaken, OfferWaits, leastLeft, Busy, ProcOk, Wf, resting, busy, waits-inside, waits-not-taken, once-running, leastLeft-small, running-inside, running-not-delayed, delayed-inside, taken-lax, running-taken}
+use Rattle.promises.proofs.Wf.{WaitingOk, FateOk, RowOk, fate-ok, ifTaken, OfferWaits, leastLeft, Busy, ProcOk, Wf, resting, busy, waits-inside, waits-not-taken, once-running, leastLeft-small, running-inside, running-not-delayed, delayed-inside, taken-lax, running-taken, idle-not-taken}
 
 -- The rows after row i has met a fate that suits it.
 mark-ok : (t : ℕ) (rows : List Row) (i : ℕ) (f : Fate) → ((j : ℕ) → RowOk t (getD rows j noRow)) → i < length rows
@@ -64,7 +64,7 @@ idle-free {s = s} w e =
     let d : s .delayed ≡ [] = resting w e .nothingDelayed in
     record {
       row = w .row;
-      nothingTaken = λ j. sym (w .once j) ∙ cc;
+      nothingTaken = idle-not-taken w e;
       nothingDelayed = d;
       noneHeld = w .held ∙ ap (heldBy (s .rows)) d;
     }
