@@ -3,7 +3,7 @@
 use Prim.Native.Nat.{ℕ, zero, suc, _+_}
 use native.Mathlib.Numerals.{add-one}
 use native.Mathlib.Omega.{arith}
-use mathlib.Core.Path.{_≡_, refl, subst}
+use mathlib.Core.Path.{refl, subst}
 use mathlib.Core.List.{List}
 use Rattle.rules.specs.Job.{Job}
 use Rattle.rules.specs.State.{State, fresh}
@@ -11,6 +11,7 @@ use Rattle.rules.specs.Picks.{Picks}
 use Rattle.rules.specs.Give.{give}
 use Rattle.rules.specs.Run.{decided, tick, before}
 use Rattle.promises.specs.Lawful.{Lawful}
+use Rattle.promises.proofs.Rows.{finished-not-waiting}
 use Rattle.promises.proofs.Stack.{occurs, rowsOf, stackOf, heldBy}
 use Rattle.promises.proofs.Steps.{Phase, Step, NothingDue, opening, deciding}
 use Rattle.promises.proofs.Wf.{ifTaken, Wf}
@@ -32,7 +33,7 @@ fresh-wf : Wf opening 0 fresh
 unfolding fresh occurs rowsOf stackOf heldBy ifTaken
 fresh-wf =
     record {
-      proc = record { nothingDelayed = refl; nothingWaits = λ j q. let z : _≡_ {A = ℕ} 0 1 = cc in omega arith };
+      proc = record { nothingDelayed = refl; nothingWaits = λ j q. finished-not-waiting q };
       offer = tt;
       row = λ j. record { within = omega arith; window = omega arith; since = omega arith; fate = omega arith };
       once = λ j. refl;

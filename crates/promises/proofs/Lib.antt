@@ -14,3 +14,4 @@ pub mod Room
 pub mod Jobs
 pub mod Announced
 pub mod End
+pub mod Document

@@ -8,7 +8,7 @@ use mathlib.Core.Logic.{_≢_}
 use mathlib.Core.List.{List, [], _∷_, _++_, map}
 use lib.ListN.{length, getD, set, List·getD-map, List·getD-append}
 use lib.Seq.{getD-set-same, getD-set-other, getD-append-seam}
-use Rattle.rules.specs.State.{Fate, Row, noRow, withFate, mark, finished}
+use Rattle.rules.specs.State.{Fate, Row, noRow, withFate, mark, waiting, finished}
 use Rattle.rules.specs.LatestStarts.{displaced, displace}
 
 -- To prove something of every number, prove it of i and of all others.
@@ -24,6 +24,9 @@ pub inside : (rows : List Row) (i : ℕ) → getD rows i noRow .fate ≢ finishe
 inside [] i h = absurd (h refl)
 inside (r ∷ rows) zero h = omega arith
 inside (r ∷ rows) (suc i) h = suc-le-suc (inside rows i h)
+
+pub finished-not-waiting : {u : ℕ} → finished u ≡ waiting → ⊥
+finished-not-waiting e = let z : _≡_ {A = ℕ} 0 1 = cc in omega arith
 
 -- Row i is replaced by x: what holds of x there, and of every other row, holds of all rows.
 pub all-set : (P : ℕ → Row → Type 0) (rows : List Row) (i : ℕ) (x : Row) → i < length rows → P i x

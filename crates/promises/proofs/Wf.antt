@@ -8,7 +8,7 @@ use lib.ListN.{length, getD}
 use Rattle.rules.specs.Job.{Job}
 use Rattle.rules.specs.State.{Fate, Row, Proc, State, noRow, rowOf, costOf, deadlineOf, leftOf, waiting, taken, finished, dropped, idle, running}
 use Rattle.promises.specs.Lawful.{Waits}
-use Rattle.promises.proofs.Rows.{at-and-beside, inside}
+use Rattle.promises.proofs.Rows.{at-and-beside, inside, finished-not-waiting}
 use Rattle.promises.proofs.Stack.{same, same-self, same-other, occurs, rowsOf, stackOf, heldBy, Below, below-fits, below-lax, held-covers}
 use Rattle.promises.proofs.Steps.{Phase, opening, offering, announcing, deciding}
 
@@ -102,7 +102,7 @@ pub busy : {ph : Phase} {t r : ℕ} {s : State} → Wf ph t s → s .proc ≡ ru
 busy {ph} {t} {s = s} w e = subst (ProcOk ph t s) e (w .proc)
 
 pub waits-inside : (rows : List Row) (i : ℕ) → Waits rows i → i < length rows
-waits-inside rows i w = inside rows i (λ e. let z : _≡_ {A = ℕ} 0 1 = cc in omega arith)
+waits-inside rows i w = inside rows i (λ e. finished-not-waiting (sym e ∙ w))
 
 pub taken-inside : (rows : List Row) (i : ℕ) → 1 ≤ ifTaken (getD rows i noRow .fate) → i < length rows
 unfolding ifTaken
