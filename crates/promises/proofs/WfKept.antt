@@ -79,6 +79,7 @@ settled-free {s = s} w e z d =
       noneHeld = w .held ∙ ap (heldBy (s .rows)) d;
     }
 
+-- A and B: row i runs on a processor that has nothing else.
 start-wf : {t : ℕ} {s : State} → Free t s → (i : ℕ) → Waits (s .rows) i → Wf announcing t (start t i s)
 unfolding start leastLeft occurs rowsOf stackOf heldBy ifTaken
 start-wf {t} {s} f i w =
@@ -98,6 +99,7 @@ start-wf {t} {s} f i w =
       held = f .noneHeld ∙ sym (ap (heldBy (mark i taken (s .rows))) d);
     }
 
+-- A: nothing is left to run.
 idle-wf : {t : ℕ} {s : State} → Free t s → ((j : ℕ) → Waits (s .rows) j → ⊥) → Wf announcing t (goIdle s)
 unfolding goIdle occurs rowsOf stackOf heldBy
 idle-wf {t} {s} f n =
@@ -110,6 +112,7 @@ idle-wf {t} {s} f n =
       held = f .noneHeld ∙ sym (ap (heldBy (s .rows)) d);
     }
 
+-- A: the last entry x comes out. The room saved with it, less the ticks since, is exact for the part of the stack that it tops.
 resume-wf : {t r : ℕ} {s : State} {x : Entry} {rest : List Entry} (ph : Phase) → OfferWaits ph (settleFinished t r s .rows)
     → Wf opening t s → s .proc ≡ running r → leftOf s r ≡ 0 → s .delayed ≡ x ∷ rest
     → Wf ph t (resume t x rest (settleFinished t r s))
@@ -131,6 +134,7 @@ resume-wf {t} {r} {s} {x} {rest} ph o w e z d =
       held = omega (arith, w .held, ap (heldBy (s .rows)) d, held-keeps (s .rows) (mark r (finished t) (s .rows)) rest (λ j _. same-rows j));
     }
 
+-- A and B: row i preempts row r. The room that is saved with r is exact for r and below; the new room is cut to fit i.
 preempt-wf : {t r i : ℕ} {s : State} → Wf (offering i) t s → s .proc ≡ running r → deadlineOf s i < deadlineOf s r → leftOf s i ≤ s .room
     → Wf announcing t (preempt t r i s)
 unfolding preempt leastLeft occurs rowsOf stackOf heldBy ifTaken
@@ -159,6 +163,7 @@ preempt-wf {t} {r} {i} {s} w e earlier roomy =
       held = omega (arith, w .held, held-keeps (s .rows) (mark i taken (s .rows)) (s .delayed) (λ j _. same-rows j));
     }
 
+-- B: the announced job waits, and is on offer.
 module _ {t : ℕ} {s : State} (w : Wf announcing t s) (j : Job) (released : j .release ≡ t) (feasible : Feasible j) where
   append-proc : (p : Proc) → s .proc ≡ p → ProcOk (offering (length (s .rows))) t (append j s) p
   unfolding append leastLeft
@@ -219,7 +224,7 @@ displaced-free taken = refl
 displaced-free (finished u) = refl
 displaced-free (dropped u) = refl
 
--- C: all that ran or was delayed waits, and nothing is in the stack.
+-- C: at a takeover all that ran or was delayed waits, and can still start; a dropped row leaves the stack as it is.
 module _ {t r : ℕ} {s : State} (w : Wf deciding t s) (e : s .proc ≡ running r) where
   displaced-row : (j : ℕ) → RowOk t (getD (map displace (s .rows)) j noRow)
   unfolding displace leastLeft
