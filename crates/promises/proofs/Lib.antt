@@ -5,3 +5,4 @@ pub mod Counting
 pub mod Earning
 pub mod FirstHalf
 pub mod SecondHalf
+pub mod FourIsNeeded
