@@ -12,7 +12,7 @@ use borrow.Author.Tests.{leb-true, leb-false, eqb-true, eqb-false}
 use Rattle.rules.specs.State.{Fate, Row, noRow, latestStart, isWaiting, waiting, taken, finished, dropped}
 use Rattle.rules.specs.Picks.{up, firstOf, firstWaiting, lowestDue, document}
 use Rattle.promises.specs.Lawful.{IsFirst, IsNext, Lawful}
-use Rattle.promises.proofs.Choose.{by-test, by-both}
+use Rattle.rules.proofs.Choose.{by-test, by-both}
 use Rattle.promises.proofs.Rows.{finished-not-waiting}
 
 is-waiting : (f : Fate) → isWaiting f ≡ true → f ≡ waiting

@@ -16,7 +16,7 @@ use Rattle.rules.specs.Picks.{Picks}
 use Rattle.rules.specs.Give.{give}
 use Rattle.rules.specs.Run.{decided, tick, before, releasedAt, allAnnounced, isIdle, End, runFrom, greatestDeadline, run}
 use Rattle.promises.specs.Lawful.{Lawful}
-use Rattle.promises.proofs.Choose.{by-both}
+use Rattle.rules.proofs.Choose.{by-both}
 use Rattle.promises.proofs.Rows.{at-and-beside}
 use Rattle.promises.proofs.Steps.{deciding}
 use Rattle.promises.proofs.Wf.{ifTaken, leastLeft, Wf, resting, taken-lax, running-taken, idle-not-taken}

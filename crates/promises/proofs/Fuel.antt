@@ -17,7 +17,7 @@ use Rattle.rules.specs.Finish.{finish}
 use Rattle.rules.specs.LatestStarts.{runningCost, displaced, displace, takeOver, dropRow, decide, decideAll}
 use Rattle.rules.specs.Run.{decided}
 use Rattle.promises.specs.Lawful.{Due, Lawful}
-use Rattle.promises.proofs.Choose.{by-test}
+use Rattle.rules.proofs.Choose.{by-test}
 use Rattle.promises.proofs.Rows.{all-set, Same, same-mark, getD-displaced, same-displaced}
 use Rattle.promises.proofs.Stack.{same, same-eq, same-small}
 use Rattle.promises.proofs.Steps.{NothingDue, opening, deciding}

@@ -14,7 +14,7 @@ use Rattle.rules.specs.Finish.{settleFinished, goIdle, resume, offerEarlier, st
 use Rattle.rules.specs.LatestStarts.{displace, takeOver, dropRow, decide, ifFound, decideAll}
 use Rattle.rules.specs.Give.{oneLess, giveTo}
 use Rattle.rules.specs.Run.{decided, tick}
-use Rattle.promises.proofs.Choose.{by-test}
+use Rattle.rules.proofs.Choose.{by-test}
 
 abbrev pub jobsOf : State → List Job
 jobsOf s = map (λ (r : Row). r .job) (s .rows)

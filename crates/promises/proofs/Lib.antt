@@ -1,13 +1,12 @@
--- The argument behind the promises, from the ground up: tests, rows, the stack, what holds at every sub-step of a tick,
--- and what follows for whole runs. Each module says what it rests on.
-pub mod Choose
+-- The argument behind the promises, from the ground up: rows, the stack, what holds at every sub-step of a tick, what
+-- follows for whole runs; then ticks of plans and their counting. Each module says what it rests on.
 pub mod Rows
+pub mod Sums
 pub mod Stack
 pub mod Steps
 pub mod Wf
 pub mod WfKept
 pub mod WithinTick
-pub mod Sums
 pub mod Fuel
 pub mod Always
 pub mod Room
@@ -15,3 +14,9 @@ pub mod Jobs
 pub mod Announced
 pub mod End
 pub mod Document
+pub mod Ticks
+pub mod Counting
+pub mod Earning
+pub mod FirstHalf
+pub mod SecondHalf
+pub mod FourIsNeeded

@@ -10,7 +10,7 @@ use lib.ListN.{getD}
 use borrow.Author.Tests.{eq-eqb, ne-eqb}
 use Rattle.rules.specs.Choose.{choose}
 use Rattle.rules.specs.State.{Row, Proc, Entry, noRow, idle, running}
-use Rattle.promises.proofs.Choose.{by-test}
+use Rattle.rules.proofs.Choose.{by-test}
 use Rattle.promises.proofs.Rows.{at-and-beside, Same}
 
 -- 1 where the two numbers are one, else 0.

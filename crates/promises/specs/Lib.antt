@@ -1,4 +1,5 @@
--- The terms in which the promises are stated: plans and what they earn, and what is asked of the two picks.
--- They rest on the tick rules alone.
+-- The terms in which the promises are stated: plans and what they earn, what is asked of the two picks, and the list that shows
+-- that the 4 of demand 3 is needed. They rest on the tick rules alone.
 pub mod Plan
 pub mod Lawful
+pub mod FourIsNeeded

@@ -8,7 +8,7 @@ use Rattle.rules.specs.Choose.{choose}
 use Rattle.rules.specs.Job.{Job}
 use Rattle.rules.specs.State.{Row, Proc, idle, running, State, waiting, taken, rowOf, costOf, deadlineOf, leftOf, laxity, mark}
 
--- Row i runs, on a processor that has nothing delayed; room is its laxity.
+-- Row i runs; room is its laxity. Nothing is delayed whenever this is done, so held value and delayed stay as they are.
 unfoldable pub start : ℕ → ℕ → State → State
 start t i s =
     record {

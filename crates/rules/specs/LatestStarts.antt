@@ -24,7 +24,7 @@ unfoldable pub displace : Row → Row
 displace r = withFate (displaced (r .fate)) r
 
 -- Row i takes over: the displaced running job and every delayed job go to waiting, held value becomes 0, room becomes 0,
--- and it runs.
+-- and it runs. The rows that run or are delayed are exactly the taken ones (proved in `promises`, Wf).
 unfoldable pub takeOver : ℕ → State → State
 takeOver i s =
     record {
@@ -63,6 +63,7 @@ unfoldable pub decideAll : Picks → ℕ → ℕ → State → State
 decideAll p zero t s = s
 decideAll p (suc k) t s = ifFound (p .next t (s .rows)) s (λ i. decideAll p k t (decide t i s))
 
--- Step C at tick t. No run ever needs more decisions in one tick than twice its rows (proved of them in `promises`).
+-- Step C at tick t. Twice as many decisions as rows are announced always suffice: afterwards nothing is due at t (proved in
+-- `promises`, Fuel), so the bound never cuts the "while" short.
 abbrev pub latestStarts : Picks → ℕ → State → State
 latestStarts p t s = decideAll p (2 * length (s .rows)) t s

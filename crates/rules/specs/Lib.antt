@@ -1,5 +1,5 @@
--- The tick rules of document 01 in its own words and order: jobs, the state, steps A to D, a tick, the run, its result, and the
--- small runs. A reader of these modules has read all that the promises are about. They rest on the library's numbers and lists.
+-- The tick rules of document 01 in its own words: jobs, the state, steps A to D (B first, since A makes an offer as in B), a
+-- tick, the run, its result, and the small runs. They rest on the library's numbers and lists alone.
 pub mod Choose
 pub mod Job
 pub mod State

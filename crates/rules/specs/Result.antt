@@ -7,7 +7,8 @@ use Rattle.rules.specs.State.{Fate, waiting, taken, finished, dropped, R
 use Rattle.rules.specs.Picks.{Picks}
 use Rattle.rules.specs.Run.{run}
 
--- A row's outcome is 1 where it finished and 2 where it was dropped. At the end of a run every row has one of these.
+-- A row's outcome is 1 where it finished and 2 where it was dropped. At the end of a proper list's run every row has one of
+-- these (proved in `promises`, End).
 unfoldable pub outcomeNumber : Fate → ℕ
 outcomeNumber waiting = 0
 outcomeNumber taken = 0
@@ -57,7 +58,7 @@ rowOutcome r =
 unfoldable pub spanOf : State → Stretch → Span
 spanOf s x = record { name = rowOf s (x .row) .job .name; first = x .first; after = x .after }
 
--- The rows in list order and the stretches in time order.
+-- The rows in the order of their announcement, which is a proper list's order, and the stretches in time order.
 unfoldable pub resultOf : State → Result
 resultOf s =
     record { value = valueOfRows (s .rows); outcomes = map rowOutcome (s .rows); spans = map (spanOf s) (reverse (s .stretches)) }

@@ -20,7 +20,7 @@ decided p t released s = latestStarts p t (announce t released (finish p t s))
 unfoldable pub tick : Picks → ℕ → List Job → State → State
 tick p t released s = give t (decided p t released s)
 
--- The state before tick n, for any announcements.
+-- The state before tick n, for any announcements, whether or not a run would have ended by then. The promises speak of it.
 unfoldable pub before : Picks → (ℕ → List Job) → ℕ → State
 before p released zero = fresh
 before p released (suc n) = tick p n (released n) (before p released n)
@@ -45,7 +45,8 @@ pub record End : Type 0 where
   pub state : State
 
 -- The run from tick t on. It ends at the first tick where, after C, the processor is idle and no row is still to be
--- announced. At most k ticks are gone through.
+-- announced; the state is the one after C. At most k ticks are gone through: where k is used up, the state is the one before
+-- tick t, which no proper list's run comes to.
 unfoldable pub runFrom : Picks → List Job → ℕ → ℕ → State → End
 runFrom p jobs zero t s = record { tick = t; state = s }
 runFrom p jobs (suc k) t s =
