@@ -38,14 +38,14 @@ pub fn check(list: &[u8]) -> Answer
 fn check_raw(rows: &[u8]) -> Answer
     ensures { λ r. ⌜ r ≡ rowsAnswer (now (rows .entry)) ⌝ }
 {
-    let n = rows.len() / 14;
-    if 64 < n {
+    let whole = rows.len() / 14;
+    if 64 < whole {
         return refused(4, 0);
     }
     if rows.len() % 14 != 0 {
         return refused(5, 0);
     }
-    check_rows(rows, n)
+    check_rows(rows, whole)
 }
 
 // Gives an accepted image's rows back, 14 bytes each.

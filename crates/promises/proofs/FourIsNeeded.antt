@@ -5,14 +5,9 @@ use mathlib.Core.Path.{_≡_, refl}
 use native.Mathlib.Omega.{arith}
 use Rattle.rules.specs.Choose.{choose}
 use Rattle.rules.specs.Job.{Proper}
-use Rattle.rules.specs.State.{fresh}
-use Rattle.rules.specs.Picks.{document, up, firstOf, firstWaiting, lowestDue}
-use Rattle.rules.specs.Announce.{start, preempt, offerTo, append, announce}
-use Rattle.rules.specs.Finish.{settleFinished, goIdle, resume, offerEarlier, startFirst, runNext, finishRow, finishOf}
-use Rattle.rules.specs.LatestStarts.{runningCost, displaced, displace, takeOver, dropRow, decide, ifFound, decideAll}
-use Rattle.rules.specs.Give.{oneLess, giveTo}
-use Rattle.rules.specs.Run.{decided, releasedAt, allAnnounced, runFrom, greatestDeadline, run}
-use Rattle.rules.specs.Result.{valueOf, valueOfRows, resultOf, runResult}
+use Rattle.rules.specs.Picks.{document}
+use Rattle.rules.specs.Result.{runResult}
+use Rattle.rules.proofs.Computed.{computed}
 use Rattle.promises.specs.Plan.{goesTo, ticks, earnsRow, earnsFrom, earns}
 use Rattle.promises.specs.FourIsNeeded.{chain, inShares, fillers}
 
@@ -21,7 +16,7 @@ chain-proper : Proper chain
 chain-proper = (omega arith, omega arith, omega arith)
 
 chain-value : runResult document chain .value ≡ 319
-unfolding choose up firstOf firstWaiting lowestDue start preempt offerTo append announce settleFinished goIdle resume offerEarlier startFirst runNext finishRow finishOf runningCost displaced displace takeOver dropRow decide ifFound decideAll oneLess giveTo decided releasedAt allAnnounced runFrom greatestDeadline run valueOf valueOfRows resultOf runResult fresh
+unfolding computed
 chain-value = refl
 
 fillers-earn : earns fillers chain ≡ 1256

@@ -11,3 +11,4 @@ pub mod Give
 pub mod Run
 pub mod Result
 pub mod SmallRuns
+pub mod FurtherRuns
