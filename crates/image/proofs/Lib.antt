@@ -4,6 +4,6 @@ pub mod Answers
 pub mod Outcomes
 pub mod Laying
 pub mod GoodRows
-pub mod Accepted
+pub mod AcceptedList
 pub mod RoundTrip
 pub mod Plain

@@ -5,6 +5,8 @@ mod list;
 mod rows;
 
 pub use answer::Answer;
+pub use answer::accepted;
+pub use answer::refused;
 pub use list::check;
 pub use list::read;
 pub use list::write;

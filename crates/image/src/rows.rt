@@ -78,7 +78,7 @@ fn row_fault(rs: &[u8], i: usize) -> u8
 }
 
 // The answer for n rows, from first to last.
-pub fn check_rows(rs: &[u8], n: usize) -> Answer
+pub(crate) fn check_rows(rs: &[u8], n: usize) -> Answer
     requires { ⌜ (14 * n ≤ length (now rs)) × (n < 65536) ⌝ }
     ensures { λ r. ⌜ r ≡ rowsFrom (now (rs .entry)) n 0 ⌝ }
 {
