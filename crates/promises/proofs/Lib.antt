@@ -20,3 +20,5 @@ pub mod Earning
 pub mod FirstHalf
 pub mod SecondHalf
 pub mod FourIsNeeded
+pub mod Stretches
+pub mod StretchCount
