@@ -33,8 +33,8 @@ use Rattle.promises.proofs.End.{end-wf, end-rows, end-kept}
 taken-not-waiting : taken ≡ waiting → ⊥
 taken-not-waiting e = let z : _≡_ {A = ℕ} 0 1 = cc in omega arith
 
--- The stretches that a row may have caused so far: one since it is announced; when it is settled, one more by taking over; and
--- if it finished, one more by that.
+-- How many stretches a row may have caused: one by being announced; one more by taking over, counted when it is settled; one
+-- more by finishing.
 unfoldable causedBy : Fate → ℕ
 causedBy waiting = 1
 causedBy taken = 1
@@ -44,12 +44,12 @@ causedBy (dropped u) = 2
 unfoldable caused : Row → ℕ
 caused r = causedBy (r .fate)
 
--- 1 if the running row has no laxity, as one that took over: its takeover counts already. Else 0.
+-- 1 if the running row has no laxity, as a row that took over: its takeover counts while it runs. Else 0.
 unfoldable tight : ℕ → List Row → Proc → ℕ
 tight t rows idle = 0
 tight t rows (running r) = 1 - laxity t (getD rows r noRow)
 
--- How many stretches there may be.
+-- How many stretches there may be while p is the processor.
 unfoldable allowed : ℕ → List Row → Proc → ℕ
 allowed t rows p = sumBy caused rows + tight t rows p
 
@@ -71,16 +71,12 @@ causedBy-small (finished u) = omega arith
 causedBy-small (dropped u) = omega arith
 
 -- A tick starts at most one stretch.
-stretch-length : (t r : ℕ) (xs : List Stretch) → (length xs ≤ length (stretch t r xs)) × (length (stretch t r xs) ≤ length xs + 1)
-unfolding stretch
-stretch-length t r [] = omega arith
-stretch-length t r (x ∷ xs) =
-    by-test (λ (ys : List Stretch). (length (x ∷ xs) ≤ length ys) × (length ys ≤ length (x ∷ xs) + 1)) _ (λ _. omega arith) (λ _. omega arith)
-
 withTick-length : (t : ℕ) (p : Proc) (xs : List Stretch) → (length xs ≤ length (withTick t p xs)) × (length (withTick t p xs) ≤ length xs + 1)
-unfolding withTick
+unfolding withTick stretch
 withTick-length t idle xs = omega arith
-withTick-length t (running r) xs = stretch-length t r xs
+withTick-length t (running r) [] = omega arith
+withTick-length t (running r) (x ∷ xs) =
+    by-test (λ (ys : List Stretch). (length (x ∷ xs) ≤ length ys) × (length ys ≤ length (x ∷ xs) + 1)) _ (λ _. omega arith) (λ _. omega arith)
 
 -- The next tick given to the same row starts none.
 stretch-on : (t r a : ℕ) (xs : List Stretch) → length (stretch t r (record { row = r; first = a; after = t } ∷ xs)) ≡ suc (length xs)
@@ -95,15 +91,15 @@ stretch-again t r (x ∷ xs) =
     (λ _. stretch-on (t + 1) r (x .first) xs)
     (λ _. stretch-on (t + 1) r t (x ∷ xs))
 
--- Tick t can be given.
+-- With the stretch that tick t may start, there are no more than there may be.
 abbrev Bounded : ℕ → List Row → Proc → List Stretch → Type 0
 Bounded t rows p xs = length (withTick t p xs) ≤ allowed t rows p
 
--- A stretch may start, whatever the runner.
+-- There may be one stretch more.
 abbrev Spare : ℕ → List Row → Proc → List Stretch → Type 0
 Spare t rows p xs = length xs + 1 ≤ allowed t rows p
 
--- In C the bound holds, and the tick can be given as soon as nothing is due.
+-- In C there are no more than there may be, and once nothing is due the tick can be given.
 record InC (t : ℕ) (s : State) : Type 0 where
   within : length (s .stretches) ≤ allowed t (s .rows) (s .proc)
   bounded : NothingDue t (s .rows) → Bounded t (s .rows) (s .proc) (s .stretches)
@@ -114,16 +110,17 @@ Counted (offering i) t s = Spare t (s .rows) (s .proc) (s .stretches)
 Counted announcing t s = Bounded t (s .rows) (s .proc) (s .stretches)
 Counted deciding t s = InC t s
 
-bounded-now : (t : ℕ) (rows : List Row) (p : Proc) (xs : List Stretch) → Bounded t rows p xs → length xs ≤ allowed t rows p
-bounded-now t rows p xs q = omega (arith, withTick-length t p xs)
+module _ (t : ℕ) (rows : List Row) (p : Proc) (xs : List Stretch) where
+  bounded-now : Bounded t rows p xs → length xs ≤ allowed t rows p
+  bounded-now q = omega (arith, withTick-length t p xs)
 
-spare-bounded : (t : ℕ) (rows : List Row) (p : Proc) (xs : List Stretch) → Spare t rows p xs → Bounded t rows p xs
-spare-bounded t rows p xs q = omega (arith, withTick-length t p xs)
+  spare-bounded : Spare t rows p xs → Bounded t rows p xs
+  spare-bounded q = omega (arith, withTick-length t p xs)
 
--- Whatever runs next.
-any-bounded : (t : ℕ) (rows : List Row) (p : Proc) (xs : List Stretch) → length xs + 1 ≤ sumBy caused rows → Bounded t rows p xs
-unfolding allowed
-any-bounded t rows p xs h = omega (arith, withTick-length t p xs)
+  -- The rows alone allow one stretch more: anything may run next.
+  any-bounded : length xs + 1 ≤ sumBy caused rows → Bounded t rows p xs
+  unfolding allowed
+  any-bounded h = spare-bounded (omega arith)
 
 caused-mark : (rows : List Row) (i : ℕ) (was is : Fate) → i < length rows → getD rows i noRow .fate ≡ was
     → sumBy caused (mark i is rows) + causedBy was ≡ sumBy caused rows + causedBy is
@@ -203,7 +200,7 @@ module _ {t r : ℕ} {s : State} (w : Wf deciding t s) (e : s .proc ≡ running 
         same-mark rows i taken i,
       )
 
-  -- C: if the displaced runner had no laxity, it is due.
+  -- C: a displaced runner that had no laxity is due.
   runner-due : laxity t (rowOf s r) ≡ 0 → Due t (takeOver i s .rows) r
   unfolding takeOver displace displaced
   runner-due z =
@@ -217,12 +214,13 @@ module _ {t r : ℕ} {s : State} (w : Wf deciding t s) (e : s .proc ≡ running 
 
   takeOver-counted : length (s .stretches) ≤ allowed t (s .rows) (s .proc) → InC t (takeOver i s)
   unfolding takeOver allowed tight
-  takeOver-counted q =
-      let now : tight t (s .rows) (s .proc) ≡ 1 - laxity t (rowOf s r) = ap (tight t (s .rows)) e in
-      record { within = omega (arith, takeOver-allowed); bounded = λ n. which (decLe 1 (laxity t (rowOf s r))) n }
+  takeOver-counted q = record { within = omega (arith, takeOver-allowed, now); bounded = which (decLe 1 (laxity t (rowOf s r))) }
     where
+      now : tight t (s .rows) (s .proc) ≡ 1 - laxity t (rowOf s r)
+      now = ap (tight t (s .rows)) e
+
       which : Dec (1 ≤ laxity t (rowOf s r)) → NothingDue t (takeOver i s .rows) → Bounded t (takeOver i s .rows) (running i) (s .stretches)
-      which (yes h) n = spare-bounded t _ (running i) (s .stretches) (omega (arith, takeOver-allowed, ap (tight t (s .rows)) e))
+      which (yes h) n = spare-bounded t _ (running i) (s .stretches) (omega (arith, takeOver-allowed, now))
       which (no h) n = absurd (n r (runner-due (omega arith)))
 
   -- C: a drop allows one stretch.
@@ -287,7 +285,7 @@ caused-bound : (rows : List Row) → sumBy caused rows ≤ 3 * length rows
 unfolding caused
 caused-bound = sumBy-bound caused 3 (λ r. causedBy-small (r .fate))
 
--- The running row has not caused what a finish would.
+-- A running row has not finished yet, so there is room for its takeover.
 allowed-bound : {ph : Phase} {t : ℕ} {s : State} → Wf ph t s → (p : Proc) → s .proc ≡ p → allowed t (s .rows) p ≤ 3 * length (s .rows)
 unfolding allowed tight causedBy
 allowed-bound {s = s} w idle e = omega (arith, caused-bound (s .rows))
@@ -303,18 +301,16 @@ counted-bound : {ph : Phase} {t : ℕ} {s : State} → Wf ph t s → Counted ph 
 counted-bound {ph} {t} {s} w q = omega (arith, counted-within ph t s q, allowed-bound w (s .proc) refl)
 
 module _ {p : Picks} (l : Lawful p) where
-  pub stretch-count : (released : ℕ → List Job) (timely : (t : ℕ) → Timely t (released t)) (n : ℕ)
-      → length (before p released n .stretches) ≤ 3 * length (before p released n .rows)
-  stretch-count released timely n = counted-bound (before-wf l released timely n) (always l released timely Counted counted-kept n)
+  module _ (released : ℕ → List Job) (timely : (t : ℕ) → Timely t (released t)) (n : ℕ) where
+    pub count-before : length (before p released n .stretches) ≤ 3 * length (before p released n .rows)
+    count-before = counted-bound (before-wf l released timely n) (always l released timely Counted counted-kept n)
 
-  pub stretch-count-decided : (released : ℕ → List Job) (timely : (t : ℕ) → Timely t (released t)) (n : ℕ)
-      → length (decidedAt p released n .stretches) ≤ 3 * length (decidedAt p released n .rows)
-  stretch-count-decided released timely n =
-      counted-bound (decidedAt-wf l released timely n) (always-decided l released timely Counted counted-kept n)
+    pub count-decided : length (decidedAt p released n .stretches) ≤ 3 * length (decidedAt p released n .rows)
+    count-decided = counted-bound (decidedAt-wf l released timely n) (always-decided l released timely Counted counted-kept n)
 
   -- There are never more stretches in all than three times the rows.
-  pub end-stretch-count : (jobs : List Job) → Proper jobs → length (run p jobs .state .stretches) ≤ 3 * length jobs
-  end-stretch-count jobs proper =
+  pub end-count : (jobs : List Job) → Proper jobs → length (run p jobs .state .stretches) ≤ 3 * length jobs
+  end-count jobs proper =
       omega (
         arith,
         counted-bound (end-wf l jobs proper) (end-kept l jobs proper Counted counted-kept),

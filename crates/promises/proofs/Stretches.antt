@@ -20,7 +20,7 @@ use Rattle.rules.specs.LatestStarts.{displace, takeOver, dropRow}
 use Rattle.rules.specs.Give.{stretch, oneLess, giveTo}
 use Rattle.rules.specs.Run.{before, run}
 use Rattle.promises.specs.Lawful.{Lawful}
-use Rattle.rules.proofs.Choose.{by-both}
+use Rattle.rules.proofs.Choose.{by-test, by-both}
 use Rattle.promises.proofs.Rows.{all-set, set-keeps, all-append, getD-displaced}
 use Rattle.promises.proofs.Stack.{same, same-self, same-other}
 use Rattle.promises.proofs.Steps.{Phase, Step, deciding, rests, runsOn, idles, startsFirst, resumes, resumesOffering, starts, preempts, waitsOn, appears, decides, takesOver, isDropped}
@@ -67,48 +67,44 @@ pub record StretchesOk (R : Stretch → Stretch → Type 0) (t : ℕ) (rows : Li
   pub ticks : (j : ℕ) → given (getD rows j noRow) ≡ ticksIn j xs
 
 -- Only an announced row has had ticks.
+given-outside : (rows : List Row) (j : ℕ) → length rows ≤ j → given (getD rows j noRow) ≡ 0
+given-outside rows j h = ap given (List·getD-eq-default rows noRow h)
+
 given-inside : (rows : List Row) (j : ℕ) → 1 ≤ given (getD rows j noRow) → j < length rows
 given-inside rows j h = which (decLt j (length rows))
   where
     which : Dec (j < length rows) → j < length rows
     which (yes i) = i
-    which (no n) = absurd (omega (arith, ap given (List·getD-eq-default rows noRow {n = j} (omega arith))))
+    which (no n) = absurd (omega (arith, given-outside rows j (omega arith)))
 
 lengthFor-own : (x : Stretch) → lengthFor (x .row) x ≡ x .after - x .first
 unfolding lengthFor choose
 lengthFor-own x = rw (eq-eqb (x .row) (x .row) refl, choose)
 
 -- Time goes on and the rows change, but the stretches are still of rows that have had ticks.
-order-keeps : (R : Stretch → Stretch → Type 0) (t t′ n : ℕ) (rows : List Row) (xs : List Stretch) → t ≤ t′
-    → ((j : ℕ) → ticksIn j xs ≤ given (getD rows j noRow)) → InOrder R t n xs → InOrder R t′ (length rows) xs
+order-keeps : (t t′ n : ℕ) (rows : List Row) (xs : List Stretch) → t ≤ t′ → ((j : ℕ) → ticksIn j xs ≤ given (getD rows j noRow))
+    → InOrder Follows t n xs → InOrder Follows t′ (length rows) xs
 unfolding ticksIn
-order-keeps R t t′ n rows [] h had k = tt
-order-keeps R t t′ n rows (x ∷ xs) h had k =
+order-keeps t t′ n rows [] h had k = tt
+order-keeps t t′ n rows (x ∷ xs) h had k =
     let ok : StretchOk t n x = k .0 in
     let some-tick : 1 ≤ given (getD rows (x .row) noRow) = omega (arith, had (x .row), lengthFor-own x) in (
       record { notEmpty = ok .notEmpty; past = omega arith; named = given-inside rows (x .row) some-tick },
       k .1,
-      order-keeps R t t′ n rows xs h (λ j. omega (arith, had j)) (k .2),
+      order-keeps t t′ n rows xs h (λ j. omega (arith, had j)) (k .2),
     )
 
--- A, B and C leave the ticks given as they are.
-rows-keep : {R : Stretch → Stretch → Type 0} {t : ℕ} {rows : List Row} {xs : List Stretch} (rows′ : List Row) → StretchesOk R t rows xs
-    → ((j : ℕ) → given (getD rows′ j noRow) ≡ given (getD rows j noRow)) → StretchesOk R t rows′ xs
-rows-keep {R} {t} {rows} {xs} rows′ k same-given =
+-- While no row is given a tick, all stays well.
+rows-keep : {t : ℕ} {rows : List Row} {xs : List Stretch} (t′ : ℕ) (rows′ : List Row) → t ≤ t′ → StretchesOk Follows t rows xs
+    → ((j : ℕ) → given (getD rows′ j noRow) ≡ given (getD rows j noRow)) → StretchesOk Follows t′ rows′ xs
+rows-keep {t} {rows} {xs} t′ rows′ h k same-given =
     record {
-      order = order-keeps R t t (length rows) rows′ xs (omega arith) (λ j. omega (arith, same-given j, k .ticks j)) (k .order);
+      order = order-keeps t t′ (length rows) rows′ xs h (λ j. omega (arith, same-given j, k .ticks j)) (k .order);
       ticks = λ j. same-given j ∙ k .ticks j;
     }
 
-mark-keeps : {R : Stretch → Stretch → Type 0} {t : ℕ} {rows : List Row} {xs : List Stretch} (i : ℕ) (f : Fate) → StretchesOk R t rows xs
-    → StretchesOk R t (mark i f rows) xs
-mark-keeps {rows = rows} i f k = rows-keep (mark i f rows) k (set-keeps given rows i (withFate f (getD rows i noRow)) refl)
-
--- A test's number, one more.
-one-more : (b : Bool) (m n : ℕ) → m ≡ n + 1 → choose b m 0 ≡ choose b n 0 + choose b 1 0
-unfolding choose
-one-more true m n e = e
-one-more false m n e = refl
+mark-keeps : {t : ℕ} {rows : List Row} {xs : List Stretch} (i : ℕ) (f : Fate) → StretchesOk Follows t rows xs → StretchesOk Follows t (mark i f rows) xs
+mark-keeps {t} {rows} i f k = rows-keep t (mark i f rows) (omega arith) k (set-keeps given rows i (withFate f (getD rows i noRow)) refl)
 
 abbrev Stretched : Phase → ℕ → State → Type 0
 Stretched ph t s = StretchesOk Follows t (s .rows) (s .stretches)
@@ -124,13 +120,13 @@ stretched-step {t} w q (resumesOffering {r = r} e z d f n) = mark-keeps r (finis
 stretched-step w q (starts {i = i} e) = mark-keeps i taken q
 stretched-step w q (preempts {i = i} e earlier roomy) = mark-keeps i taken q
 stretched-step w q (waitsOn e n) = q
-stretched-step {s = s} w q (appears j released feasible) =
-    rows-keep _ q (all-append (λ (i : ℕ) (x : Row). given x ≡ given (rowOf s i)) (s .rows) _
-    (omega (arith, ap given (List·getD-eq-default (s .rows) noRow {n = length (s .rows)} (omega arith))))
+stretched-step {t} {s = s} w q (appears j released feasible) =
+    rows-keep t _ (omega arith) q (all-append (λ (i : ℕ) (x : Row). given x ≡ given (rowOf s i)) (s .rows) _
+    (omega (arith, given-outside (s .rows) (length (s .rows)) (omega arith)))
     (λ i n. refl))
 stretched-step w q decides = q
-stretched-step {s = s} w q (takesOver i e due costly) =
-    mark-keeps i taken (rows-keep (map displace (s .rows)) q (λ j. ap given (getD-displaced (s .rows) j)))
+stretched-step {t} {s = s} w q (takesOver i e due costly) =
+    mark-keeps i taken (rows-keep t (map displace (s .rows)) (omega arith) q (λ j. ap given (getD-displaced (s .rows) j)))
 stretched-step {t} w q (isDropped i e due cheap) = mark-keeps i (dropped t) q
 
 -- Where a stretch ends does not matter to the one before it.
@@ -139,55 +135,53 @@ grown-follows x y [] e f k = tt
 grown-follows x y (z ∷ zs) e f k =
     record { apart = omega (arith, k .apart); longest = λ touch q. k .longest (touch ∙ sym f) (q ∙ sym e) }
 
--- D: what row r's next tick does to the stretches xs, in which x is the newest.
+lengthFor-empty : (t r j : ℕ) → lengthFor j (record { row = r; first = t; after = t }) ≡ 0
+unfolding lengthFor
+lengthFor-empty t r j = by-test (λ (n : ℕ). n ≡ 0) (eqb j r) (λ _. omega arith) (λ _. refl)
+
+-- A stretch that grows by a tick has one tick more of its row's.
+lengthFor-grown : (b : Bool) (m n : ℕ) → m ≡ n + 1 → choose b m 0 ≡ choose b n 0 + choose b 1 0
+unfolding choose
+lengthFor-grown true m n e = e
+lengthFor-grown false m n e = refl
+
+-- D: row r is given tick t.
 module _ (t r : ℕ) (rows rows′ : List Row) (more : (j : ℕ) → given (getD rows′ j noRow) ≡ given (getD rows j noRow) + same j r) where
-  runner-inside : r < length rows′
-  runner-inside = given-inside rows′ r (omega (arith, more r, same-self r))
-
-  -- It starts a stretch,
-  new-ok : (xs : List Stretch) → StretchesOk Follows t rows xs → ToFirst Follows (record { row = r; first = t; after = t + 1 }) xs
-      → StretchesOk Follows (t + 1) rows′ (record { row = r; first = t; after = t + 1 } ∷ xs)
-  unfolding ticksIn lengthFor same
-  new-ok xs k first =
-      let one : t + 1 - t ≡ 1 = omega arith in
-      record {
-        order = (
-          record { notEmpty = omega arith; past = omega arith; named = runner-inside },
-          first,
-          order-keeps Follows t (t + 1) _ rows′ xs (omega arith) (λ j. omega (arith, more j, k .ticks j)) (k .order),
-        );
-        ticks = λ j. omega (arith, more j, k .ticks j, ap (λ (n : ℕ). choose (eqb j r) n 0) one);
-      }
-
-  -- or the newest grows.
-  grown-ok : (x : Stretch) (xs : List Stretch) → StretchesOk Follows t rows (x ∷ xs) → x .row ≡ r → x .after ≡ t
+  -- A stretch x of row r that ends at t, though it may be empty, grows.
+  grown-ok : (x : Stretch) (xs : List Stretch) → x .row ≡ r → x .after ≡ t → x .first ≤ t → ToFirst Follows x xs → InOrder Follows t (length rows) xs
+      → ((j : ℕ) → given (getD rows j noRow) ≡ lengthFor j x + ticksIn j xs)
       → StretchesOk Follows (t + 1) rows′ (record { row = r; first = x .first; after = t + 1 } ∷ xs)
   unfolding ticksIn lengthFor same
-  grown-ok x xs k e now =
-      let ok : StretchOk t (length rows) x = k .order .0 in
+  grown-ok x xs own now begun first k ticks =
       let one : t + 1 - x .first ≡ x .after - x .first + 1 = omega arith in
       record {
         order = (
-          record { notEmpty = omega arith; past = omega arith; named = runner-inside },
-          grown-follows x _ xs e refl (k .order .1),
-          order-keeps Follows t (t + 1) _ rows′ xs (omega arith) (λ j. omega (arith, more j, k .ticks j)) (k .order .2),
+          record { notEmpty = omega arith; past = omega arith; named = given-inside rows′ r (omega (arith, more r, same-self r)) },
+          grown-follows x _ xs own refl first,
+          order-keeps t (t + 1) (length rows) rows′ xs (omega arith) (λ j. omega (arith, more j, ticks j)) k,
         );
-        ticks = λ j. omega (arith, more j, k .ticks j, one-more (eqb j r) _ _ one, ap (λ (i : ℕ). choose (eqb j i) (x .after - x .first) 0) e);
+        ticks = λ j. omega (arith, more j, ticks j, lengthFor-grown (eqb j r) _ _ one, ap (λ (i : ℕ). choose (eqb j i) (x .after - x .first) 0) own);
       }
 
+  -- A new stretch is an empty one that grows.
+  new-ok : (xs : List Stretch) → StretchesOk Follows t rows xs → ToFirst Follows (record { row = r; first = t; after = t }) xs
+      → StretchesOk Follows (t + 1) rows′ (record { row = r; first = t; after = t + 1 } ∷ xs)
+  new-ok xs k first =
+      grown-ok (record { row = r; first = t; after = t }) xs refl refl (omega arith) first (k .order) (λ j. omega (arith, k .ticks j, lengthFor-empty t r j))
+
   stretch-ok : (xs : List Stretch) → StretchesOk Follows t rows xs → StretchesOk Follows (t + 1) rows′ (stretch t r xs)
-  unfolding stretch
+  unfolding stretch ticksIn
   stretch-ok [] k = new-ok [] k tt
   stretch-ok (x ∷ xs) k =
+      let ok : StretchOk t (length rows) x = k .order .0 in
       by-both (StretchesOk Follows (t + 1) rows′) (eqb (x .row) r) (eqb (x .after) t)
-      (λ a b. grown-ok x xs k (eqb-true _ _ a) (eqb-true _ _ b))
-      (λ n. new-ok (x ∷ xs) k (record { apart = k .order .0 .past; longest = λ touch q. eqb-false _ _ (n (eq-eqb _ _ q)) touch }))
+      (λ a b. grown-ok x xs (eqb-true _ _ a) (eqb-true _ _ b) (omega arith) (k .order .1) (k .order .2) (k .ticks))
+      (λ n. new-ok (x ∷ xs) k (record { apart = ok .past; longest = λ touch q. eqb-false _ _ (n (eq-eqb _ _ q)) touch }))
 
 giveTo-stretched : {t : ℕ} {s : State} → Wf deciding t s → Stretched deciding t s → (p : Proc) → s .proc ≡ p
     → StretchesOk Follows (t + 1) (giveTo p t s .rows) (giveTo p t s .stretches)
 unfolding giveTo oneLess leastLeft
-giveTo-stretched {t} {s} w q idle e =
-    record { order = order-keeps Follows t (t + 1) _ (s .rows) (s .stretches) (omega arith) (λ j. omega (arith, q .ticks j)) (q .order); ticks = q .ticks }
+giveTo-stretched {t} {s} w q idle e = rows-keep (t + 1) (s .rows) (omega arith) q (λ j. refl)
 giveTo-stretched {t} {s} w q (running r) e =
     let u : 1 ≤ leftOf s r = busy w e .unfinished in
     let k : RowOk t (rowOf s r) = w .row r in
