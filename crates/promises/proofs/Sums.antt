@@ -1,4 +1,4 @@
--- Sums over rows of a number read off each: after one row changed, against a bound, and against another list's.
+-- Sums over rows of a number read off each: after one row changed or was appended, against a bound, and against another list's.
 -- Counting arguments about rows go through here. Rests on State and the library's lists.
 use Prim.Native.Nat.{ℕ, zero, suc, _+_, _*_, _≤_, _<_}
 use native.Mathlib.Nat.{le-of-suc-le-suc}
