@@ -18,10 +18,10 @@ use Rattle.rules.specs.Run.{decided, tick, before, releasedAt, allAnnounced, is
 use Rattle.promises.specs.Lawful.{Lawful}
 use Rattle.rules.proofs.Choose.{by-both}
 use Rattle.promises.proofs.Rows.{at-and-beside}
-use Rattle.promises.proofs.Steps.{deciding}
+use Rattle.promises.proofs.Steps.{Phase, deciding}
 use Rattle.promises.proofs.Wf.{ifTaken, leastLeft, Wf, resting, taken-lax, running-taken, idle-not-taken}
 use Rattle.promises.proofs.WithinTick.{Timely}
-use Rattle.promises.proofs.Always.{decidedAt, decidedAt-wf}
+use Rattle.promises.proofs.Always.{Kept, decidedAt, decidedAt-wf, always-decided}
 use Rattle.promises.proofs.Jobs.{jobsOf}
 use Rattle.promises.proofs.Announced.{Split, released-timely, decided-split}
 
@@ -145,3 +145,7 @@ module _ {p : Picks} (l : Lawful p) (jobs : List Job) (proper : Proper jobs) whe
   pub end-settled : (j : ℕ) → Settled (rowOf (run p jobs .state) j .fate)
   end-settled j =
       settled-or (rowOf (run p jobs .state) j .fate) (resting end-wf (run-ends .atRest) .nothingWaits j) (idle-not-taken end-wf (run-ends .atRest) j)
+
+  -- What is kept holds there too.
+  pub end-kept : (Q : Phase → ℕ → State → Type 0) → Kept Q → Q deciding (run p jobs .tick) (run p jobs .state)
+  end-kept Q k = subst (Q deciding (run p jobs .tick)) (sym (run-ends .state)) (always-decided l (releasedAt jobs) timely Q k (run p jobs .tick))

@@ -13,6 +13,8 @@ pub mod Room
 pub mod Jobs
 pub mod Announced
 pub mod End
+pub mod Stretches
+pub mod StretchCount
 pub mod Document
 pub mod Ticks
 pub mod Counting

@@ -1,10 +1,10 @@
--- Sums over rows of a number read off each: after one row changed, against a bound, and against another list's.
+-- Sums over rows of a number read off each: after one row changed or was appended, against a bound, and against another list's.
 -- Counting arguments about rows go through here. Rests on State and the library's lists.
 use Prim.Native.Nat.{ℕ, zero, suc, _+_, _*_, _≤_, _<_}
 use native.Mathlib.Nat.{le-of-suc-le-suc}
 use native.Mathlib.Omega.{arith}
 use mathlib.Core.Path.{_≡_}
-use mathlib.Core.List.{List, [], _∷_}
+use mathlib.Core.List.{List, [], _∷_, _++_}
 use lib.ListN.{length, getD, set}
 use Rattle.rules.specs.State.{Row, noRow}
 
@@ -49,3 +49,8 @@ sumBy-less f g (r ∷ rows) [] e all i h less = absurd (omega arith)
 sumBy-less f g (r ∷ rows) (o ∷ others) e all zero h less = omega (arith, sumBy-le f g rows others (omega arith) (λ j. all (suc j)))
 sumBy-less f g (r ∷ rows) (o ∷ others) e all (suc i) h less =
     omega (arith, all 0, sumBy-less f g rows others (omega arith) (λ j. all (suc j)) i (omega arith) less)
+
+pub sumBy-append : (f : Row → ℕ) (rows : List Row) (x : Row) → sumBy f (rows ++ (x ∷ [])) ≡ sumBy f rows + f x
+unfolding sumBy
+sumBy-append f [] x = omega arith
+sumBy-append f (r ∷ rows) x = omega (arith, sumBy-append f rows x)
