@@ -20,3 +20,6 @@ pub mod Earning
 pub mod FirstHalf
 pub mod SecondHalf
 pub mod FourIsNeeded
+pub mod Reach
+pub mod Books
+pub mod Ledger

@@ -3,8 +3,8 @@
 use Prim.Native.Nat.{ℕ, zero, suc, _+_, _*_, _≤_, _<_}
 use native.Mathlib.Nat.{le-of-suc-le-suc}
 use native.Mathlib.Omega.{arith}
-use mathlib.Core.Path.{_≡_}
-use mathlib.Core.List.{List, [], _∷_}
+use mathlib.Core.Path.{_≡_, refl}
+use mathlib.Core.List.{List, [], _∷_, _++_}
 use lib.ListN.{length, getD, set}
 use Rattle.rules.specs.State.{Row, noRow}
 
@@ -49,3 +49,13 @@ sumBy-less f g (r ∷ rows) [] e all i h less = absurd (omega arith)
 sumBy-less f g (r ∷ rows) (o ∷ others) e all zero h less = omega (arith, sumBy-le f g rows others (omega arith) (λ j. all (suc j)))
 sumBy-less f g (r ∷ rows) (o ∷ others) e all (suc i) h less =
     omega (arith, all 0, sumBy-less f g rows others (omega arith) (λ j. all (suc j)) i (omega arith) less)
+
+pub sumBy-append : (f : Row → ℕ) (rows : List Row) (x : Row) → sumBy f (rows ++ (x ∷ [])) ≡ sumBy f rows + f x
+unfolding sumBy
+sumBy-append f [] x = omega arith
+sumBy-append f (r ∷ rows) x = omega (arith, sumBy-append f rows x)
+
+pub sumBy-none : (f : Row → ℕ) (rows : List Row) → ((j : ℕ) → f (getD rows j noRow) ≡ 0) → sumBy f rows ≡ 0
+unfolding sumBy
+sumBy-none f [] none = refl
+sumBy-none f (r ∷ rows) none = omega (arith, none 0, sumBy-none f rows (λ j. none (suc j)))
