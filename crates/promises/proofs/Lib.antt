@@ -23,3 +23,4 @@ pub mod FourIsNeeded
 pub mod Reach
 pub mod Books
 pub mod Ledger
+pub mod Windows
