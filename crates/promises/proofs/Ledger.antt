@@ -1,6 +1,7 @@
 -- The ledger of demand 3's first half: at every point of every run the counted ticks so far, and those that the reach will still
 -- count, are covered by what finished rows paid and by the stack's costs. One lemma for each kind of sub-step. Rests on Books.
 use Prim.Native.Nat.{ℕ, _+_, _-_, _*_, _≤_, _<_}
+use native.Mathlib.Numerals.{add-one}
 use native.Mathlib.Omega.{arith}
 use mathlib.Core.Path.{_≡_, refl, sym, ap, subst, _∙_}
 use mathlib.Core.Bool.{Bool, true, false}
@@ -11,19 +12,24 @@ use lib.Seq.{getD-set-same}
 use borrow.Author.Tests.{ltb-true, ltb-false, lt-ltb, le-ltb}
 use Rattle.rules.specs.Choose.{choose}
 use Rattle.rules.specs.Job.{Job}
-use Rattle.rules.specs.State.{Fate, Row, Proc, Entry, State, noRow, rowOf, costOf, deadlineOf, leftOf, withFate, mark, waiting, taken, finished, dropped, idle, running}
+use Rattle.rules.specs.State.{Fate, Row, Proc, Entry, State, fresh, noRow, rowOf, costOf, deadlineOf, leftOf, withFate, mark, waiting, taken, finished, dropped, idle, running}
+use Rattle.rules.specs.Picks.{Picks}
 use Rattle.rules.specs.Announce.{start, preempt, append}
 use Rattle.rules.specs.Finish.{settleFinished, goIdle, resume}
 use Rattle.rules.specs.LatestStarts.{displaced, displace, takeOver, dropRow}
-use Rattle.rules.specs.Give.{oneLess, giveTo}
-use Rattle.promises.specs.Lawful.{Waits, Due, IsFirst}
-use Rattle.promises.specs.Bound.{droppedDeadline, reach, counts}
+use Rattle.rules.specs.Give.{oneLess, giveTo, give}
+use Rattle.promises.specs.Lawful.{Waits, Due, IsFirst, Lawful}
+use Rattle.promises.specs.Bound.{decidedAt, droppedDeadline, reach, counts, counted, countFrom, count}
 use Rattle.rules.proofs.Choose.{by-test}
 use Rattle.promises.proofs.Rows.{Same, same-mark, same-append, getD-displaced, same-displaced}
 use Rattle.promises.proofs.Stack.{heldBy, below-fits}
 use Rattle.promises.proofs.Steps.{Phase, Step, opening, offering, announcing, deciding, rests, runsOn, idles, startsFirst, resumes, resumesOffering, starts, preempts, waitsOn, appears, decides, takesOver, isDropped}
 use Rattle.promises.proofs.Wf.{WaitingOk, fate-ok, leastLeft, Wf, busy, waits-inside, running-inside, running-taken}
 use Rattle.promises.proofs.WfKept.{Free, idle-free, settled-free, displaced-free}
+use Rattle.promises.proofs.WithinTick.{Timely}
+use Rattle.promises.proofs.Always.{KeptAlong, decidedAt-wf, along-decided}
+use Rattle.promises.proofs.Counting.{count-suc}
+use Rattle.promises.proofs.Sums.{sumBy}
 use Rattle.promises.proofs.Reach.{reach-covers, reach-displaced}
 use Rattle.promises.proofs.Books.{lateCost, pays, paid, keeps, stackLeft, Replaced, replaced, Added, added, nothing-left, displaced-paid}
 
@@ -190,3 +196,20 @@ unfolding giveTo counts choose
 give-ledger {n} {t} {s} w q idle e = record { proc = subst (LedgerOf _ (t + 1) s) (sym e) (idle-clear (clear q e)) }
 give-ledger {n} {t} {s} w q (running r) e =
     record { proc = subst (LedgerOf (n + 1) (t + 1) (giveTo (running r) t s)) (sym e) (give-owes w e (owes q e)) }
+
+-- Along any run, with its own counted ticks.
+module _ {p : Picks} (l : Lawful p) (released : ℕ → List Job) (timely : (t : ℕ) → Timely t (released t)) where
+  ledger-kept : KeptAlong p released (λ (ph : Phase) (t : ℕ) (s : State). Ledger (count (counted p released) t) t s)
+  unfolding fresh countFrom reach paid sumBy counted
+  ledger-kept =
+      record {
+        begins = record { proc = record { ahead = omega arith } };
+        steps = ledger-step;
+        gives = λ n q.
+            subst (λ (m : ℕ). Ledger m (n + 1) (give n (decidedAt p released n)))
+            (sym (ap (count (counted p released)) (add-one n) ∙ count-suc (counted p released) n))
+            (give-ledger (decidedAt-wf l released timely n) q _ refl);
+      }
+
+  pub ledger-along : (n : ℕ) → Ledger (count (counted p released) n) n (decidedAt p released n)
+  ledger-along = along-decided l released timely (λ (ph : Phase) (t : ℕ) (s : State). Ledger (count (counted p released) t) t s) ledger-kept

@@ -24,3 +24,5 @@ pub mod Reach
 pub mod Books
 pub mod Ledger
 pub mod Windows
+pub mod Ended
+pub mod FourTimes
