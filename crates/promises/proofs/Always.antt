@@ -9,7 +9,7 @@ use Rattle.rules.specs.Job.{Job}
 use Rattle.rules.specs.State.{State, fresh}
 use Rattle.rules.specs.Picks.{Picks}
 use Rattle.rules.specs.Give.{give}
-use Rattle.rules.specs.Run.{decided, tick, before}
+use Rattle.rules.specs.Run.{tick, before}
 use Rattle.promises.specs.Lawful.{Lawful}
 pub use Rattle.promises.specs.Bound.{decidedAt}
 use Rattle.promises.proofs.Rows.{finished-not-waiting}

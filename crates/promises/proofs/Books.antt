@@ -2,23 +2,37 @@
 -- stack, and the reach; and how they change with one row, an announcement and a takeover. Rests on Reach and Sums.
 use Prim.Native.Nat.{ℕ, _+_, _*_, _≤_, _<_, max}
 use native.Mathlib.Omega.{arith}
-use mathlib.Core.Path.{_≡_, refl, sym, ap, subst, _∙_}
+use mathlib.Core.Path.{_≡_, refl, sym, ap, _∙_}
 use mathlib.Core.List.{List, [], _∷_, _++_, map}
 use lib.Dec.{ltb}
 use lib.ListN.{length, getD, set, length-map}
+use borrow.Author.Tests.{lt-ltb, le-ltb}
 use Rattle.rules.specs.Choose.{choose}
 use Rattle.rules.specs.Job.{Job}
 use Rattle.rules.specs.State.{Fate, Row, noRow, waiting, taken, finished, dropped}
 use Rattle.rules.specs.LatestStarts.{displaced, displace}
 use Rattle.promises.specs.Bound.{droppedDeadline, reach}
+use Rattle.rules.proofs.Choose.{by-test}
 use Rattle.promises.proofs.Rows.{getD-displaced}
 use Rattle.promises.proofs.Sums.{sumBy, sumBy-set, sumBy-le, sumBy-append, sumBy-none}
-use Rattle.promises.proofs.Reach.{reach-set, reach-append, reach-displaced}
+use Rattle.promises.proofs.Reach.{reach-set, reach-append}
 use Rattle.promises.proofs.Wf.{ifTaken}
 
 -- The cost of a job that is through at u, if that is not before its deadline; else 0.
 unfoldable pub lateCost : ℕ → ℕ → ℕ → ℕ
 lateCost u deadline cost = choose (ltb u deadline) 0 cost
+
+pub lateCost-none : (u d c : ℕ) → u < d → lateCost u d c ≡ 0
+unfolding lateCost choose
+lateCost-none u d c h = rw (lt-ltb u d h, choose)
+
+pub lateCost-whole : (u d c : ℕ) → d ≤ u → lateCost u d c ≡ c
+unfolding lateCost choose
+lateCost-whole u d c h = rw (le-ltb u d h, choose)
+
+pub lateCost-small : (u d c : ℕ) → lateCost u d c ≤ c
+unfolding lateCost
+lateCost-small u d c = by-test (λ (v : ℕ). v ≤ c) (ltb u d) (λ _. omega arith) (λ _. omega arith)
 
 -- A finished job pays 3 × its cost, and 4 × its cost if it finished exactly at its deadline.
 unfoldable pub pays : Fate → Job → ℕ

@@ -3,20 +3,19 @@
 use Prim.Native.Nat.{ℕ, _+_, _*_, _≤_}
 use native.Mathlib.Nat.{le-trans}
 use native.Mathlib.Omega.{arith}
-use mathlib.Core.Path.{_≡_, refl, sym, ap, subst, _∙_}
+use mathlib.Core.Path.{_≡_, refl, ap, subst}
 use mathlib.Core.Bool.{Bool, true, false}
 use mathlib.Core.List.{List, [], _∷_}
 use lib.Dec.{ltb}
 use Rattle.rules.specs.Choose.{choose}
 use Rattle.rules.specs.Job.{Job, Proper}
-use Rattle.rules.specs.State.{Fate, Row, State, rowOf, waiting, taken, finished, dropped, idle}
+use Rattle.rules.specs.State.{Fate, Row, State, rowOf, waiting, taken, finished, dropped}
 use Rattle.rules.specs.Picks.{Picks}
 use Rattle.rules.specs.Run.{releasedAt, greatestDeadline, run}
 use Rattle.rules.specs.Result.{valueOf, valueOfRows}
 use Rattle.promises.specs.Plan.{Plan, earns}
 use Rattle.promises.specs.Lawful.{Lawful}
-use Rattle.promises.specs.Bound.{decidedAt, counted, count, isEarly, earlyValue, bound}
-use Rattle.rules.proofs.Choose.{by-test}
+use Rattle.promises.specs.Bound.{counted, count, isEarly, earlyValue, bound}
 use Rattle.promises.proofs.End.{timely, row-deadline, run-ends, end-rows}
 use Rattle.promises.proofs.Ended.{end-stays}
 use Rattle.promises.proofs.FirstHalf.{LateCovered, earns-at-most}

@@ -1,27 +1,27 @@
 -- The ledger of demand 3's first half: at every point of every run the counted ticks so far, and those that the reach will still
 -- count, are covered by what finished rows paid and by the stack's costs. One lemma for each kind of sub-step. Rests on Books.
 use Prim.Native.Nat.{ℕ, _+_, _-_, _*_, _≤_, _<_}
+use native.Mathlib.Nat.{add-zero}
 use native.Mathlib.Numerals.{add-one}
 use native.Mathlib.Omega.{arith}
 use mathlib.Core.Path.{_≡_, refl, sym, ap, subst, _∙_}
-use mathlib.Core.Bool.{Bool, true, false}
 use mathlib.Core.List.{List, [], _∷_, _++_, map}
 use lib.Dec.{ltb}
 use lib.ListN.{length, getD, set, length-map}
 use lib.Seq.{getD-set-same}
-use borrow.Author.Tests.{ltb-true, ltb-false, lt-ltb, le-ltb}
+use borrow.Author.Tests.{ltb-true, ltb-false}
 use Rattle.rules.specs.Choose.{choose}
 use Rattle.rules.specs.Job.{Job}
 use Rattle.rules.specs.State.{Fate, Row, Proc, Entry, State, fresh, noRow, rowOf, costOf, deadlineOf, leftOf, withFate, mark, waiting, taken, finished, dropped, idle, running}
 use Rattle.rules.specs.Picks.{Picks}
 use Rattle.rules.specs.Announce.{start, preempt, append}
 use Rattle.rules.specs.Finish.{settleFinished, goIdle, resume}
-use Rattle.rules.specs.LatestStarts.{displaced, displace, takeOver, dropRow}
+use Rattle.rules.specs.LatestStarts.{displace, takeOver, dropRow}
 use Rattle.rules.specs.Give.{oneLess, giveTo, give}
 use Rattle.promises.specs.Lawful.{Waits, Due, IsFirst, Lawful}
 use Rattle.promises.specs.Bound.{decidedAt, droppedDeadline, reach, counts, counted, countFrom, count}
 use Rattle.rules.proofs.Choose.{by-test}
-use Rattle.promises.proofs.Rows.{Same, same-mark, same-append, getD-displaced, same-displaced}
+use Rattle.promises.proofs.Rows.{Same, same-mark, same-append, getD-displaced, same-displaced, displaced-waits}
 use Rattle.promises.proofs.Stack.{heldBy, below-fits}
 use Rattle.promises.proofs.Steps.{Phase, Step, opening, offering, announcing, deciding, rests, runsOn, idles, startsFirst, resumes, resumesOffering, starts, preempts, waitsOn, appears, decides, takesOver, isDropped}
 use Rattle.promises.proofs.Wf.{WaitingOk, fate-ok, leastLeft, Wf, busy, waits-inside, running-inside, running-taken}
@@ -31,23 +31,11 @@ use Rattle.promises.proofs.Always.{KeptAlong, decidedAt-wf, along-decid
 use Rattle.promises.proofs.Counting.{count-suc}
 use Rattle.promises.proofs.Sums.{sumBy}
 use Rattle.promises.proofs.Reach.{reach-covers, reach-displaced}
-use Rattle.promises.proofs.Books.{lateCost, pays, paid, keeps, stackLeft, Replaced, replaced, Added, added, nothing-left, displaced-paid}
+use Rattle.promises.proofs.Books.{lateCost, lateCost-none, lateCost-whole, lateCost-small, pays, paid, keeps, stackLeft, Replaced, replaced, Added, added, nothing-left, displaced-paid}
 
--- The cost of a row that ends no earlier than at its deadline if it runs from t on; else 0. It stays the same while the row runs.
+-- A row's cost if its laxity at t is 0, else 0. It stays the same while the row runs.
 abbrev tight : ℕ → Row → ℕ
 tight t r = lateCost (t + r .left) (r .job .deadline) (r .job .cost)
-
-tight-none : (u d c : ℕ) → u < d → lateCost u d c ≡ 0
-unfolding lateCost choose
-tight-none u d c h = rw (lt-ltb u d h, choose)
-
-tight-whole : (u d c : ℕ) → d ≤ u → lateCost u d c ≡ c
-unfolding lateCost choose
-tight-whole u d c h = rw (le-ltb u d h, choose)
-
-tight-small : (u d c : ℕ) → lateCost u d c ≤ c
-unfolding lateCost
-tight-small u d c = by-test (λ (v : ℕ). v ≤ c) (ltb u d) (λ _. omega arith) (λ _. omega arith)
 
 -- With n ticks counted before tick t. While nothing runs, the finished rows have paid for these and for those below the reach.
 pub record Clear (n t : ℕ) (rows : List Row) : Type 0 where
@@ -79,22 +67,22 @@ start-owes {n} {t} {s} f q i w =
     let m : Same (s .rows) (mark i taken (s .rows)) i = same-mark (s .rows) i taken i in
     omega (arith, nothing-left (s .rows) (f .nothingTaken), f .row i .within, f .noneHeld)
 
--- The running row r finishes at t: it pays 3 × its cost and its tightness.
+-- The running row r finishes at t: it pays 3 × its cost and its tightness, and nothing remained of it.
 module _ {n t r : ℕ} {s : State} (w : Wf opening t s) (e : s .proc ≡ running r) (z : leftOf s r ≡ 0) (q : Owes n t s r) where
+  finish-books : Replaced (s .rows) r taken (withFate (finished t) (rowOf s r))
+  finish-books = replaced (s .rows) r taken _ (running-inside w e) (running-taken w e)
+
+  finish-tight : tight t (rowOf s r) ≡ lateCost t (deadlineOf s r) (costOf s r)
+  finish-tight = rw (z, add-zero)
+
   finish-clear : s .delayed ≡ [] → Clear n t (settleFinished t r s .rows)
   unfolding settleFinished pays keeps droppedDeadline heldBy
-  finish-clear d =
-      let b : Replaced (s .rows) r taken (withFate (finished t) (rowOf s r)) = replaced (s .rows) r taken _ (running-inside w e) (running-taken w e) in
-      let now : t + leftOf s r ≡ t = omega arith in
-      omega (arith, w .held, ap (heldBy (s .rows)) d, ap (λ (u : ℕ). lateCost u (deadlineOf s r) (costOf s r)) now)
+  finish-clear d = omega (arith, finish-books, finish-tight, w .held, ap (heldBy (s .rows)) d)
 
   resume-owes : {x : Entry} {rest : List Entry} → s .delayed ≡ x ∷ rest → Owes n t (resume t x rest (settleFinished t r s)) (x .row)
   unfolding settleFinished resume pays keeps droppedDeadline heldBy
-  resume-owes {x} {rest} d =
-      let b : Replaced (s .rows) r taken (withFate (finished t) (rowOf s r)) = replaced (s .rows) r taken _ (running-inside w e) (running-taken w e) in
-      let now : t + leftOf s r ≡ t = omega arith in
-      let m : Same (s .rows) (mark r (finished t) (s .rows)) (x .row) = same-mark (s .rows) r (finished t) (x .row) in
-      omega (arith, w .held, ap (heldBy (s .rows)) d, ap (λ (u : ℕ). lateCost u (deadlineOf s r) (costOf s r)) now)
+  resume-owes {x} d =
+      omega (arith, finish-books, finish-tight, w .held, ap (heldBy (s .rows)) d, same-mark (s .rows) r (finished t) (x .row))
 
 -- Row i preempts row r. There was room for i, so r was not tight.
 preempt-owes : {n t r i : ℕ} {s : State} → Wf (offering i) t s → s .proc ≡ running r → leftOf s i ≤ s .room → Owes n t s r → Owes n t (preempt t r i s) i
@@ -104,7 +92,7 @@ preempt-owes {n} {t} {r} {i} {s} w e roomy q =
     let k : WaitingOk t (rowOf s i .job) (rowOf s i .left) = fate-ok (w .row i) (w .offer) in
     let m : Same (s .rows) (mark i taken (s .rows)) i = same-mark (s .rows) i taken i in
     let lax : t + leftOf s r < deadlineOf s r = omega (arith, below-fits (s .rows) t _ _ (s .delayed) (busy w e .below)) in
-    omega (arith, tight-none (t + leftOf s r) (deadlineOf s r) (costOf s r) lax, w .row i .within)
+    omega (arith, lateCost-none (t + leftOf s r) (deadlineOf s r) (costOf s r) lax, w .row i .within)
 
 -- A row is announced: it waits, and the rows before it are what they were.
 append-owes : (n : ℕ) {t : ℕ} {s : State} → Wf announcing t s → (j : Job) (p : Proc) → s .proc ≡ p → LedgerOf n t s p → LedgerOf n t (append j s) p
@@ -121,12 +109,11 @@ append-owes n {t} {s} w j (running r) e q =
 module _ {n t r : ℕ} {s : State} (w : Wf deciding t s) (e : s .proc ≡ running r) (i : ℕ) (due : Due t (s .rows) i) (q : Owes n t s r) where
   -- Row i takes over: the stack's costs, less than half its own, are given up, and it is tight.
   takeOver-owes : 2 * (costOf s r + s .held) < costOf s i → Owes n t (takeOver i s) i
-  unfolding takeOver displace displaced pays keeps droppedDeadline
+  unfolding takeOver displace pays keeps droppedDeadline
   takeOver-owes costly =
       let rows : List Row = map displace (s .rows) in
       let h : i < length rows = rw length-map (waits-inside (s .rows) i (due .0)) in
-      let waits : getD rows i noRow .fate ≡ waiting = ap (λ (x : Row). x .fate) (getD-displaced (s .rows) i) ∙ ap displaced (due .0) in
-      let b : Replaced rows i waiting (withFate taken (getD rows i noRow)) = replaced rows i waiting _ h waits in
+      let b : Replaced rows i waiting (withFate taken (getD rows i noRow)) = replaced rows i waiting _ h (displaced-waits (s .rows) i (due .0)) in
       let k : WaitingOk t (rowOf s i .job) (rowOf s i .left) = fate-ok (w .row i) (due .0) in
       let l : deadlineOf s i - leftOf s i ≡ t = due .1 in
       let m : Same (s .rows) rows i = same-displaced (s .rows) i in
@@ -137,8 +124,8 @@ module _ {n t r : ℕ} {s : State} (w : Wf deciding t s) (e : s .proc ≡ runnin
         w .row i .within,
         displaced-paid (s .rows),
         reach-displaced (s .rows),
-        tight-small (t + leftOf s r) (deadlineOf s r) (costOf s r),
-        tight-whole (t + getD (mark i taken rows) i noRow .left) (getD (mark i taken rows) i noRow .job .deadline) (getD (mark i taken rows) i noRow .job .cost) (omega arith),
+        lateCost-small (t + leftOf s r) (deadlineOf s r) (costOf s r),
+        lateCost-whole (t + getD (mark i taken rows) i noRow .left) (getD (mark i taken rows) i noRow .job .deadline) (getD (mark i taken rows) i noRow .job .cost) (omega arith),
       )
 
   -- Row i is dropped: it costs at most 2 × the stack's costs, and the reach grows to no more than t and its cost.

@@ -2,13 +2,11 @@
 -- are below the reach. So the ticks of a row's window are counted up to its finish, or to its deadline. Rests on Always and Reach.
 use Prim.Native.Nat.{ℕ, _+_, _≤_, _<_, min}
 use native.Mathlib.Omega.{arith}
-use native.Mathlib.Decide.{ℕ-discrete}
-use mathlib.Core.Path.{_≡_, refl, sym, ap, subst, _∙_}
+use mathlib.Core.Path.{_≡_, refl, ap}
 use mathlib.Core.Logic.{_≢_}
 use mathlib.Core.Bool.{Bool, true, false}
 use mathlib.Core.List.{List, [], _∷_, _++_, map}
-use lib.Dec.{ltb}
-use lib.ListN.{length, getD, set, length-map}
+use lib.ListN.{length, getD}
 use borrow.Author.Tests.{ltb-false, lt-ltb}
 use Rattle.rules.specs.Job.{Job}
 use Rattle.rules.specs.State.{Fate, Row, Proc, State, fresh, noRow, rowOf, withFate, mark, waiting, taken, finished, dropped, idle, running}
@@ -19,8 +17,8 @@ use Rattle.rules.specs.LatestStarts.{displaced, displace, takeOver, dropRow}
 use Rattle.rules.specs.Give.{oneLess, giveTo}
 use Rattle.promises.specs.Lawful.{Lawful, Waits, IsFirst}
 use Rattle.promises.specs.Bound.{decidedAt, droppedDeadline, reach, counts, counted, isEarly}
-use Rattle.promises.proofs.Rows.{at-and-beside, all-set, all-append, set-keeps, getD-displaced}
-use Rattle.promises.proofs.Steps.{Phase, Step, opening, offering, announcing, deciding, rests, runsOn, idles, startsFirst, resumes, resumesOffering, starts, preempts, waitsOn, appears, decides, takesOver, isDropped}
+use Rattle.promises.proofs.Rows.{at-and-beside, all-set, all-append, set-keeps, getD-displaced, displaced-waits}
+use Rattle.promises.proofs.Steps.{Phase, Step, opening, deciding, rests, runsOn, idles, startsFirst, resumes, resumesOffering, starts, preempts, waitsOn, appears, decides, takesOver, isDropped}
 use Rattle.promises.proofs.Wf.{fate-ok, ifTaken, Wf, resting, waits-inside, running-inside, running-taken, idle-not-taken}
 use Rattle.promises.proofs.WithinTick.{Timely}
 use Rattle.promises.proofs.Reach.{reach-covers}
@@ -95,10 +93,6 @@ module _ {test : ℕ → Bool} {t : ℕ} where
         row = λ j. rw (getD-displaced rows j)
             (λ s a b. q .row j s a (omega (arith, until-displaced t (getD rows j noRow .fate) (getD rows j noRow .job))));
       }
-
-displaced-waits : (rows : List Row) (i : ℕ) → Waits rows i → Waits (map displace rows) i
-unfolding displace displaced
-displaced-waits rows i w = ap (λ (x : Row). x .fate) (getD-displaced rows i) ∙ ap displaced w
 
 windows-step : {test : ℕ → Bool} {t : ℕ} {ph ph′ : Phase} {s s′ : State} → Wf ph t s → Windows test t (s .rows) → Step t ph s ph′ s′ → Windows test t (s′ .rows)
 unfolding goIdle start preempt append takeOver dropRow resume IsFirst
