@@ -9,14 +9,14 @@ use lib.ListN.{length, getD, set, length-map}
 use borrow.Author.Tests.{lt-ltb, le-ltb}
 use Rattle.rules.specs.Choose.{choose}
 use Rattle.rules.specs.Job.{Job}
-use Rattle.rules.specs.State.{Fate, Row, noRow, waiting, taken, finished, dropped}
+use Rattle.rules.specs.State.{Fate, Row, noRow, withFate, waiting, taken, finished, dropped}
 use Rattle.rules.specs.LatestStarts.{displaced, displace}
 use Rattle.promises.specs.Bound.{droppedDeadline, reach}
 use Rattle.rules.proofs.Choose.{by-test}
 use Rattle.promises.proofs.Rows.{getD-displaced}
 use Rattle.promises.proofs.Sums.{sumBy, sumBy-set, sumBy-le, sumBy-append, sumBy-none}
 use Rattle.promises.proofs.Reach.{reach-set, reach-append}
-use Rattle.promises.proofs.Wf.{ifTaken}
+use Rattle.promises.proofs.Wf.{ifTaken, waits-inside}
 
 -- The cost of a job that is through at u, if that is not before its deadline; else 0.
 unfoldable pub lateCost : ℕ → ℕ → ℕ → ℕ
@@ -69,6 +69,10 @@ replaced rows i g x h e =
       left = ap (λ (f : Fate). stackLeft (set rows i x) + keeps f (getD rows i noRow .left)) (sym e) ∙ sumBy-set _ rows i x h;
       reaches = reach-set rows i x;
     }
+
+-- A waiting row meets the fate f.
+pub from-waiting : (rows : List Row) (i : ℕ) (f : Fate) → getD rows i noRow .fate ≡ waiting → Replaced rows i waiting (withFate f (getD rows i noRow))
+from-waiting rows i f w = replaced rows i waiting (withFate f (getD rows i noRow)) (waits-inside rows i w) w
 
 -- The row x is announced.
 pub record Added (rows : List Row) (x : Row) : Type 0 where

@@ -7,7 +7,7 @@ use native.Mathlib.Omega.{arith}
 use mathlib.Core.Path.{_≡_, refl, sym, ap, subst, _∙_}
 use mathlib.Core.List.{List, [], _∷_, _++_, map}
 use lib.Dec.{ltb}
-use lib.ListN.{length, getD, set, length-map}
+use lib.ListN.{length, getD, set}
 use lib.Seq.{getD-set-same}
 use borrow.Author.Tests.{ltb-true, ltb-false}
 use Rattle.rules.specs.Choose.{choose}
@@ -24,24 +24,25 @@ use Rattle.rules.proofs.Choose.{by-test}
 use Rattle.promises.proofs.Rows.{Same, same-mark, same-append, getD-displaced, same-displaced, displaced-waits}
 use Rattle.promises.proofs.Stack.{heldBy, below-fits}
 use Rattle.promises.proofs.Steps.{Phase, Step, opening, offering, announcing, deciding, rests, runsOn, idles, startsFirst, resumes, resumesOffering, starts, preempts, waitsOn, appears, decides, takesOver, isDropped}
-use Rattle.promises.proofs.Wf.{WaitingOk, fate-ok, leastLeft, Wf, busy, waits-inside, running-inside, running-taken}
+use Rattle.promises.proofs.Wf.{WaitingOk, fate-ok, leastLeft, Wf, busy, running-inside, running-taken}
 use Rattle.promises.proofs.WfKept.{Free, idle-free, settled-free, displaced-free}
 use Rattle.promises.proofs.WithinTick.{Timely}
 use Rattle.promises.proofs.Always.{KeptAlong, decidedAt-wf, along-decided}
 use Rattle.promises.proofs.Counting.{count-suc}
 use Rattle.promises.proofs.Sums.{sumBy}
 use Rattle.promises.proofs.Reach.{reach-covers, reach-displaced}
-use Rattle.promises.proofs.Books.{lateCost, lateCost-none, lateCost-whole, lateCost-small, pays, paid, keeps, stackLeft, Replaced, replaced, Added, added, nothing-left, displaced-paid}
+use Rattle.promises.proofs.Books.{lateCost, lateCost-none, lateCost-whole, lateCost-small, pays, paid, keeps, stackLeft, Replaced, replaced, from-waiting, added, nothing-left, displaced-paid}
 
 -- A row's cost if its laxity at t is 0, else 0. It stays the same while the row runs.
 abbrev tight : ℕ → Row → ℕ
 tight t r = lateCost (t + r .left) (r .job .deadline) (r .job .cost)
 
--- With n ticks counted before tick t. While nothing runs, the finished rows have paid for these and for those below the reach.
+-- With n ticks counted before tick t. While nothing runs, what finished rows paid covers these, and those from t to the reach.
 pub record Clear (n t : ℕ) (rows : List Row) : Type 0 where
   pub ahead : n + (reach rows - t) ≤ paid rows
 
--- While row r runs: for these, with the costs of the stack, less what remains of it; and for both, with 3 × the costs.
+-- While row r runs, its tightness helps to cover; so does the stack, of which the costs are r's and the held value. What was given
+-- to it, its costs less what remains, helps to cover the ticks so far; 3 × its costs help to cover those up to the reach too.
 pub record Owes (n t : ℕ) (s : State) (r : ℕ) : Type 0 where
   pub sofar : n + stackLeft (s .rows) ≤ paid (s .rows) + (costOf s r + s .held) + tight t (rowOf s r)
   pub ahead : n + (reach (s .rows) - t) ≤ paid (s .rows) + 3 * (costOf s r + s .held) + tight t (rowOf s r)
@@ -63,9 +64,14 @@ owes {n} {t} {s = s} q e = subst (LedgerOf n t s) e (q .proc)
 start-owes : {n t : ℕ} {s : State} → Free t s → Clear n t (s .rows) → (i : ℕ) → Waits (s .rows) i → Owes n t (start t i s) i
 unfolding start pays keeps droppedDeadline
 start-owes {n} {t} {s} f q i w =
-    let b : Replaced (s .rows) i waiting (withFate taken (rowOf s i)) = replaced (s .rows) i waiting _ (waits-inside (s .rows) i w) w in
-    let m : Same (s .rows) (mark i taken (s .rows)) i = same-mark (s .rows) i taken i in
-    omega (arith, nothing-left (s .rows) (f .nothingTaken), f .row i .within, f .noneHeld)
+    omega (
+      arith,
+      from-waiting (s .rows) i taken w,
+      same-mark (s .rows) i taken i,
+      nothing-left (s .rows) (f .nothingTaken),
+      f .row i .within,
+      f .noneHeld,
+    )
 
 -- The running row r finishes at t: it pays 3 × its cost and its tightness, and nothing remained of it.
 module _ {n t r : ℕ} {s : State} (w : Wf opening t s) (e : s .proc ≡ running r) (z : leftOf s r ≡ 0) (q : Owes n t s r) where
@@ -88,22 +94,25 @@ module _ {n t r : ℕ} {s : State} (w : Wf opening t s) (e : s .proc ≡ running
 preempt-owes : {n t r i : ℕ} {s : State} → Wf (offering i) t s → s .proc ≡ running r → leftOf s i ≤ s .room → Owes n t s r → Owes n t (preempt t r i s) i
 unfolding preempt pays keeps droppedDeadline
 preempt-owes {n} {t} {r} {i} {s} w e roomy q =
-    let b : Replaced (s .rows) i waiting (withFate taken (rowOf s i)) = replaced (s .rows) i waiting _ (waits-inside (s .rows) i (w .offer)) (w .offer) in
     let k : WaitingOk t (rowOf s i .job) (rowOf s i .left) = fate-ok (w .row i) (w .offer) in
-    let m : Same (s .rows) (mark i taken (s .rows)) i = same-mark (s .rows) i taken i in
     let lax : t + leftOf s r < deadlineOf s r = omega (arith, below-fits (s .rows) t _ _ (s .delayed) (busy w e .below)) in
-    omega (arith, lateCost-none (t + leftOf s r) (deadlineOf s r) (costOf s r) lax, w .row i .within)
+    omega (
+      arith,
+      from-waiting (s .rows) i taken (w .offer),
+      same-mark (s .rows) i taken i,
+      lateCost-none (t + leftOf s r) (deadlineOf s r) (costOf s r) lax,
+      w .row i .within,
+    )
 
 -- A row is announced: it waits, and the rows before it are what they were.
 append-owes : (n : ℕ) {t : ℕ} {s : State} → Wf announcing t s → (j : Job) (p : Proc) → s .proc ≡ p → LedgerOf n t s p → LedgerOf n t (append j s) p
 unfolding append pays keeps droppedDeadline
-append-owes n {s = s} w j idle e q = let b : Added (s .rows) _ = added (s .rows) (record { job = j; left = j .cost; fate = waiting }) in omega arith
+append-owes n {s = s} w j idle e q = omega (arith, added (s .rows) (record { job = j; left = j .cost; fate = waiting }))
 append-owes n {t} {s} w j (running r) e q =
     let x : Row = record { job = j; left = j .cost; fate = waiting } in
-    let b : Added (s .rows) x = added (s .rows) x in
     let m : Same (s .rows) (s .rows ++ (x ∷ [])) r = same-append (s .rows) x r (running-inside w e) in
-    let k : tight t (rowOf (append j s) r) ≡ tight t (rowOf s r) = cc in
-    omega arith
+    let same-tight : tight t (rowOf (append j s) r) ≡ tight t (rowOf s r) = cc in
+    omega (arith, added (s .rows) x)
 
 -- Step C, with row i due.
 module _ {n t r : ℕ} {s : State} (w : Wf deciding t s) (e : s .proc ≡ running r) (i : ℕ) (due : Due t (s .rows) i) (q : Owes n t s r) where
@@ -112,8 +121,6 @@ module _ {n t r : ℕ} {s : State} (w : Wf deciding t s) (e : s .proc ≡ runnin
   unfolding takeOver displace pays keeps droppedDeadline
   takeOver-owes costly =
       let rows : List Row = map displace (s .rows) in
-      let h : i < length rows = rw length-map (waits-inside (s .rows) i (due .0)) in
-      let b : Replaced rows i waiting (withFate taken (getD rows i noRow)) = replaced rows i waiting _ h (displaced-waits (s .rows) i (due .0)) in
       let k : WaitingOk t (rowOf s i .job) (rowOf s i .left) = fate-ok (w .row i) (due .0) in
       let l : deadlineOf s i - leftOf s i ≡ t = due .1 in
       let m : Same (s .rows) rows i = same-displaced (s .rows) i in
@@ -121,6 +128,7 @@ module _ {n t r : ℕ} {s : State} (w : Wf deciding t s) (e : s .proc ≡ runnin
       let none : stackLeft rows ≡ 0 = nothing-left rows (λ j. rw (getD-displaced (s .rows) j) (displaced-free (rowOf s j .fate))) in
       omega (
         arith,
+        from-waiting rows i taken (displaced-waits (s .rows) i (due .0)),
         w .row i .within,
         displaced-paid (s .rows),
         reach-displaced (s .rows),
@@ -132,15 +140,14 @@ module _ {n t r : ℕ} {s : State} (w : Wf deciding t s) (e : s .proc ≡ runnin
   drop-owes : costOf s i ≤ 2 * (costOf s r + s .held) → Owes n t (dropRow t i s) r
   unfolding dropRow pays keeps droppedDeadline
   drop-owes cheap =
-      let b : Replaced (s .rows) i waiting (withFate (dropped t) (rowOf s i)) = replaced (s .rows) i waiting _ (waits-inside (s .rows) i (due .0)) (due .0) in
       let k : WaitingOk t (rowOf s i .job) (rowOf s i .left) = fate-ok (w .row i) (due .0) in
       let l : deadlineOf s i - leftOf s i ≡ t = due .1 in
       let m : Same (s .rows) (mark i (dropped t) (s .rows)) r = same-mark (s .rows) i (dropped t) r in
       let same-tight : tight t (rowOf (dropRow t i s) r) ≡ tight t (rowOf s r) = cc in
-      omega (arith, w .row i .within)
+      omega (arith, from-waiting (s .rows) i (dropped t) (due .0), w .row i .within)
 
 -- One sub-step keeps the ledger.
-pub ledger-step : {n t : ℕ} {ph ph′ : Phase} {s s′ : State} → Wf ph t s → Ledger n t s → Step t ph s ph′ s′ → Ledger n t s′
+ledger-step : {n t : ℕ} {ph ph′ : Phase} {s s′ : State} → Wf ph t s → Ledger n t s → Step t ph s ph′ s′ → Ledger n t s′
 unfolding goIdle start preempt append takeOver dropRow resume settleFinished IsFirst
 ledger-step w q (rests e) = q
 ledger-step w q (runsOn e u) = q
@@ -177,7 +184,7 @@ give-owes {n} {t} {r} {s} w e q =
     let same-tight : tight (t + 1) (getD (set (s .rows) r x) r noRow) ≡ tight t (rowOf s r) = rw (at, same-through) in
     omega (arith, busy w e .unfinished, reach-covers (s .rows) r, ap (λ (g : Fate). keeps g (leftOf s r)) f, ap (λ (g : Fate). keeps g (leftOf s r - 1)) f)
 
-pub give-ledger : {n t : ℕ} {s : State} → Wf deciding t s → Ledger n t s → (p : Proc) → s .proc ≡ p
+give-ledger : {n t : ℕ} {s : State} → Wf deciding t s → Ledger n t s → (p : Proc) → s .proc ≡ p
     → Ledger (n + choose (counts t p (s .rows)) 1 0) (t + 1) (giveTo p t s)
 unfolding giveTo counts choose
 give-ledger {n} {t} {s} w q idle e = record { proc = subst (LedgerOf _ (t + 1) s) (sym e) (idle-clear (clear q e)) }
@@ -185,8 +192,11 @@ give-ledger {n} {t} {s} w q (running r) e =
     record { proc = subst (LedgerOf (n + 1) (t + 1) (giveTo (running r) t s)) (sym e) (give-owes w e (owes q e)) }
 
 -- Along any run, with its own counted ticks.
+abbrev LedgerAlong : Picks → (ℕ → List Job) → Phase → ℕ → State → Type 0
+LedgerAlong p released ph t s = Ledger (count (counted p released) t) t s
+
 module _ {p : Picks} (l : Lawful p) (released : ℕ → List Job) (timely : (t : ℕ) → Timely t (released t)) where
-  ledger-kept : KeptAlong p released (λ (ph : Phase) (t : ℕ) (s : State). Ledger (count (counted p released) t) t s)
+  ledger-kept : KeptAlong p released (LedgerAlong p released)
   unfolding fresh countFrom reach paid sumBy counted
   ledger-kept =
       record {
@@ -199,4 +209,4 @@ module _ {p : Picks} (l : Lawful p) (released : ℕ → List Job) (timely : (t :
       }
 
   pub ledger-along : (n : ℕ) → Ledger (count (counted p released) n) n (decidedAt p released n)
-  ledger-along = along-decided l released timely (λ (ph : Phase) (t : ℕ) (s : State). Ledger (count (counted p released) t) t s) ledger-kept
+  ledger-along = along-decided l released timely (LedgerAlong p released) ledger-kept

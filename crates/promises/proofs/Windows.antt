@@ -48,9 +48,12 @@ until-later t taken j s n h = omega arith
 until-later t (finished u) j s n h = h
 until-later t (dropped u) j s n h = omega arith
 
--- Of the window of each row, the ticks up to there pass the test.
+-- Of a row's window, the ticks up to there pass the test.
+abbrev Window : (ℕ → Bool) → ℕ → Row → Type 0
+Window test t r = (s : ℕ) → r .job .release ≤ s → s < until t (r .fate) (r .job) → test s ≡ true
+
 record Windows (test : ℕ → Bool) (t : ℕ) (rows : List Row) : Type 0 where
-  row : (j s : ℕ) → getD rows j noRow .job .release ≤ s → s < until t (getD rows j noRow .fate) (getD rows j noRow .job) → test s ≡ true
+  row : (j : ℕ) → Window test t (getD rows j noRow)
 
 module _ {test : ℕ → Bool} {t : ℕ} where
   -- Row i, whose fate was g, meets the fate f.
@@ -58,8 +61,7 @@ module _ {test : ℕ → Bool} {t : ℕ} where
       → until t f (getD rows i noRow .job) ≤ until t g (getD rows i noRow .job) → Windows test t rows → Windows test t (mark i f rows)
   mark-windows rows i g f e h le q =
       record {
-        row = all-set (λ (j : ℕ) (r : Row). (s : ℕ) → r .job .release ≤ s → s < until t (r .fate) (r .job) → test s ≡ true)
-            rows i (withFate f (getD rows i noRow)) h
+        row = all-set (λ (j : ℕ) (r : Row). Window test t r) rows i (withFate f (getD rows i noRow)) h
             (λ s a b. q .row i s a (omega (arith, ap (λ (x : Fate). until t x (getD rows i noRow .job)) e)))
             (λ j n. q .row j);
       }
@@ -81,9 +83,7 @@ module _ {test : ℕ → Bool} {t : ℕ} where
   unfolding until
   append-windows rows j released q =
       record {
-        row = all-append (λ (i : ℕ) (r : Row). (s : ℕ) → r .job .release ≤ s → s < until t (r .fate) (r .job) → test s ≡ true) rows _
-            (λ s a b. absurd (omega arith))
-            (λ i n. q .row i);
+        row = all-append (λ (i : ℕ) (r : Row). Window test t r) rows _ (λ s a b. absurd (omega arith)) (λ i n. q .row i);
       }
 
   displaced-windows : (rows : List Row) → Windows test t rows → Windows test t (map displace rows)
@@ -153,8 +153,11 @@ until-late t taken j e h = h
 until-late t (finished u) j e h = ltb-false _ _ e
 until-late t (dropped u) j e h = omega arith
 
+abbrev WindowsAlong : Picks → (ℕ → List Job) → Phase → ℕ → State → Type 0
+WindowsAlong p released ph t s = Windows (counted p released) t (s .rows)
+
 module _ {p : Picks} (l : Lawful p) (released : ℕ → List Job) (timely : (t : ℕ) → Timely t (released t)) where
-  windows-kept : KeptAlong p released (λ (ph : Phase) (t : ℕ) (s : State). Windows (counted p released) t (s .rows))
+  windows-kept : KeptAlong p released (WindowsAlong p released)
   unfolding until counted fresh
   windows-kept =
       record {
@@ -165,5 +168,5 @@ module _ {p : Picks} (l : Lawful p) (released : ℕ → List Job) (timely : (t :
 
   pub late-covered : (n : ℕ) (j : ℕ) → rowOf (decidedAt p released n) j .job .deadline ≤ n → LateCovered (counted p released) (rowOf (decidedAt p released n) j)
   late-covered n j h late s a b =
-      along-decided l released timely (λ (ph : Phase) (t : ℕ) (c : State). Windows (counted p released) t (c .rows)) windows-kept n .row j s a
+      along-decided l released timely (WindowsAlong p released) windows-kept n .row j s a
       (omega (arith, until-late n (rowOf (decidedAt p released n) j .fate) (rowOf (decidedAt p released n) j .job) late h))
