@@ -1,5 +1,5 @@
 -- The induction over a run, for any announcements: what holds of a fresh state, is kept by every sub-step and by D, holds
--- before and after the decisions of every tick. A later invariant is one `Kept` and nothing else. Rests on Fuel.
+-- before and after the decisions of every tick. A later invariant is one `Kept` (or `KeptAlong`) and nothing else. Rests on Fuel.
 use Prim.Native.Nat.{ℕ, zero, suc, _+_}
 use native.Mathlib.Numerals.{add-one}
 use native.Mathlib.Omega.{arith}
@@ -9,8 +9,9 @@ use Rattle.rules.specs.Job.{Job}
 use Rattle.rules.specs.State.{State, fresh}
 use Rattle.rules.specs.Picks.{Picks}
 use Rattle.rules.specs.Give.{give}
-use Rattle.rules.specs.Run.{decided, tick, before}
+use Rattle.rules.specs.Run.{tick, before}
 use Rattle.promises.specs.Lawful.{Lawful}
+pub use Rattle.promises.specs.Bound.{decidedAt}
 use Rattle.promises.proofs.Rows.{finished-not-waiting}
 use Rattle.promises.proofs.Stack.{occurs, rowsOf, stackOf, heldBy}
 use Rattle.promises.proofs.Steps.{Phase, Step, NothingDue, opening, deciding}
@@ -25,9 +26,11 @@ pub record Kept (Q : Phase → ℕ → State → Type 0) : Type 0 where
   pub steps : {t : ℕ} {ph ph′ : Phase} {s s′ : State} → Wf ph t s → Q ph t s → Step t ph s ph′ s′ → Q ph′ t s′
   pub gives : {t : ℕ} {s : State} → Wf deciding t s → NothingDue t (s .rows) → Q deciding t s → Q opening (t + 1) (give t s)
 
--- The state after C of tick n, for any announcements.
-abbrev pub decidedAt : Picks → (ℕ → List Job) → ℕ → State
-decidedAt p released n = decided p n (released n) (before p released n)
+-- The same for one run, where Q may speak of that run itself: D is asked only where it comes to D.
+pub record KeptAlong (p : Picks) (released : ℕ → List Job) (Q : Phase → ℕ → State → Type 0) : Type 0 where
+  pub begins : Q opening 0 fresh
+  pub steps : {t : ℕ} {ph ph′ : Phase} {s s′ : State} → Wf ph t s → Q ph t s → Step t ph s ph′ s′ → Q ph′ t s′
+  pub gives : (n : ℕ) → Q deciding n (decidedAt p released n) → Q opening (n + 1) (give n (decidedAt p released n))
 
 fresh-wf : Wf opening 0 fresh
 unfolding fresh occurs rowsOf stackOf heldBy ifTaken
@@ -58,17 +61,30 @@ module _ {p : Picks} (l : Lawful p) (released : ℕ → List Job) (timely : (t :
   pub nothing-due-at : (n : ℕ) → NothingDue n (decidedAt p released n .rows)
   nothing-due-at n = nothing-due l (before-wf n) (released n) (timely n)
 
-  -- What is kept holds before every tick, and after its decisions.
-  kept-within : (Q : Phase → ℕ → State → Type 0) → Kept Q → (n : ℕ) → Q opening n (before p released n) → Q deciding n (decidedAt p released n)
-  kept-within Q k n q =
+  -- What is kept along the run holds before every tick, and after its decisions.
+  along-within : (Q : Phase → ℕ → State → Type 0) → KeptAlong p released Q → (n : ℕ) → Q opening n (before p released n) → Q deciding n (decidedAt p released n)
+  along-within Q k n q =
       met-keeps (λ (ph : Phase) (s : State). Q ph n s) (record { steps = λ w′ q′ x. k .steps w′ q′ x }) (before-wf n) q (decidedAt-met n)
 
-  pub always : (Q : Phase → ℕ → State → Type 0) → Kept Q → (n : ℕ) → Q opening n (before p released n)
+  pub along : (Q : Phase → ℕ → State → Type 0) → KeptAlong p released Q → (n : ℕ) → Q opening n (before p released n)
   unfolding before tick
-  always Q k zero = k .begins
-  always Q k (suc n) =
-      subst (λ (m : ℕ). Q opening m (give n (decidedAt p released n))) (add-one n)
-      (k .gives (decidedAt-wf n) (nothing-due-at n) (kept-within Q k n (always Q k n)))
+  along Q k zero = k .begins
+  along Q k (suc n) =
+      subst (λ (m : ℕ). Q opening m (give n (decidedAt p released n))) (add-one n) (k .gives n (along-within Q k n (along Q k n)))
+
+  pub along-decided : (Q : Phase → ℕ → State → Type 0) → KeptAlong p released Q → (n : ℕ) → Q deciding n (decidedAt p released n)
+  along-decided Q k n = along-within Q k n (along Q k n)
+
+  kept-along : (Q : Phase → ℕ → State → Type 0) → Kept Q → KeptAlong p released Q
+  kept-along Q k =
+      record {
+        begins = k .begins;
+        steps = λ w q x. k .steps w q x;
+        gives = λ n q. k .gives (decidedAt-wf n) (nothing-due-at n) q;
+      }
+
+  pub always : (Q : Phase → ℕ → State → Type 0) → Kept Q → (n : ℕ) → Q opening n (before p released n)
+  always Q k = along Q (kept-along Q k)
 
   pub always-decided : (Q : Phase → ℕ → State → Type 0) → Kept Q → (n : ℕ) → Q deciding n (decidedAt p released n)
-  always-decided Q k n = kept-within Q k n (always Q k n)
+  always-decided Q k = along-decided Q (kept-along Q k)

@@ -11,6 +11,7 @@ use lib.Dec.{eqb}
 use borrow.Author.Tests.{eqb-true}
 use Rattle.rules.specs.Choose.{choose}
 use Rattle.promises.specs.Plan.{Plan, goesTo, ticks}
+use Rattle.promises.specs.Bound.{countFrom, count}
 use Rattle.rules.proofs.Choose.{by-test}
 
 -- The sum of f over a list of row numbers.
@@ -55,19 +56,10 @@ unfolding sumOver
 sumOver-zero [] = refl
 sumOver-zero (i ∷ is) = omega (arith, sumOver-zero is)
 
--- How many of the n ticks from a on pass a test.
-unfoldable pub countFrom : (ℕ → Bool) → ℕ → ℕ → ℕ
-countFrom u a zero = 0
-countFrom u a (suc n) = countFrom u a n + choose (u (a + n)) 1 0
-
 every-tick : (a n : ℕ) → countFrom (λ s. true) a n ≡ n
 unfolding countFrom choose
 every-tick a zero = refl
 every-tick a (suc n) = omega (arith, every-tick a n)
-
--- How many of the ticks below n pass a test.
-abbrev pub count : (ℕ → Bool) → ℕ → ℕ
-count u n = countFrom u 0 n
 
 pub count-suc : (u : ℕ → Bool) (n : ℕ) → count u (suc n) ≡ count u n + choose (u n) 1 0
 unfolding countFrom

@@ -51,7 +51,7 @@ is-idle idle e = refl
 is-idle (running r) e = absurd (false≢true e)
 
 -- A row's deadline is at most the greatest of all that are announced, and so of the list.
-row-deadline : (rows : List Row) (i : ℕ) → getD rows i noRow .job .deadline ≤ greatestDeadline (map (λ (r : Row). r .job) rows)
+pub row-deadline : (rows : List Row) (i : ℕ) → getD rows i noRow .job .deadline ≤ greatestDeadline (map (λ (r : Row). r .job) rows)
 unfolding greatestDeadline
 row-deadline [] i = omega arith
 row-deadline (r ∷ rows) zero = omega arith
@@ -79,7 +79,7 @@ none-later t [] (j ∷ js) a k =
 none-later t (j ∷ js) rest a k = none-later t js rest (and-eq-true-iff (leb (j .release) t) (allAnnounced (js ++ rest) t) .0 a .1) k
 
 module _ {p : Picks} (l : Lawful p) (jobs : List Job) (proper : Proper jobs) where
-  timely : (t : ℕ) → Timely t (releasedAt jobs t)
+  pub timely : (t : ℕ) → Timely t (releasedAt jobs t)
   timely t = released-timely 0 t jobs proper
 
   -- At the greatest deadline nothing runs: what ran would have to end later.

@@ -15,10 +15,16 @@ pub mod Announced
 pub mod End
 pub mod Stretches
 pub mod StretchCount
+pub mod Ended
 pub mod Document
 pub mod Ticks
 pub mod Counting
 pub mod Earning
 pub mod FirstHalf
+pub mod Reach
+pub mod Books
+pub mod Ledger
+pub mod Windows
+pub mod FourTimes
 pub mod SecondHalf
 pub mod FourIsNeeded

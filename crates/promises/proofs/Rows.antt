@@ -3,7 +3,7 @@
 use Prim.Native.Nat.{ℕ, zero, suc, _<_, suc-le-suc}
 use native.Mathlib.Omega.{arith}
 use native.Mathlib.Decide.{ℕ-discrete}
-use mathlib.Core.Path.{_≡_, refl, sym, ap, subst}
+use mathlib.Core.Path.{_≡_, refl, sym, ap, subst, _∙_}
 use mathlib.Core.Logic.{_≢_}
 use mathlib.Core.List.{List, [], _∷_, _++_, map}
 use lib.ListN.{length, getD, set, List·getD-map, List·getD-append}
@@ -98,3 +98,7 @@ getD-displaced rows j = List·getD-map displace rows j noRow
 pub same-displaced : (rows : List Row) (j : ℕ) → Same rows (map displace rows) j
 unfolding displace
 same-displaced rows j = same-but-fate rows (map displace rows) j (displaced (getD rows j noRow .fate)) (getD-displaced rows j)
+
+pub displaced-waits : (rows : List Row) (i : ℕ) → getD rows i noRow .fate ≡ waiting → getD (map displace rows) i noRow .fate ≡ waiting
+unfolding displace displaced
+displaced-waits rows i w = ap (λ (r : Row). r .fate) (getD-displaced rows i) ∙ ap displaced w

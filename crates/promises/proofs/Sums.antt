@@ -3,7 +3,7 @@
 use Prim.Native.Nat.{ℕ, zero, suc, _+_, _*_, _≤_, _<_}
 use native.Mathlib.Nat.{le-of-suc-le-suc}
 use native.Mathlib.Omega.{arith}
-use mathlib.Core.Path.{_≡_}
+use mathlib.Core.Path.{_≡_, refl}
 use mathlib.Core.List.{List, [], _∷_, _++_}
 use lib.ListN.{length, getD, set}
 use Rattle.rules.specs.State.{Row, noRow}
@@ -54,3 +54,8 @@ pub sumBy-append : (f : Row → ℕ) (rows : List Row) (x : Row) → sumBy f (ro
 unfolding sumBy
 sumBy-append f [] x = omega arith
 sumBy-append f (r ∷ rows) x = omega (arith, sumBy-append f rows x)
+
+pub sumBy-none : (f : Row → ℕ) (rows : List Row) → ((j : ℕ) → f (getD rows j noRow) ≡ 0) → sumBy f rows ≡ 0
+unfolding sumBy
+sumBy-none f [] none = refl
+sumBy-none f (r ∷ rows) none = omega (arith, none 0, sumBy-none f rows (λ j. none (suc j)))

@@ -52,13 +52,13 @@ module _ {t r : ℕ} {s : State} (w : Wf opening t s) (e : s .proc ≡ running r
       (λ j n. omega (arith, same-other j r n))
 
 -- A state in which nothing runs or is delayed, whatever the processor says.
-record Free (t : ℕ) (s : State) : Type 0 where
-  row : (j : ℕ) → RowOk t (rowOf s j)
-  nothingTaken : (j : ℕ) → ifTaken (rowOf s j .fate) ≡ 0
-  nothingDelayed : s .delayed ≡ []
-  noneHeld : s .held ≡ 0
+pub record Free (t : ℕ) (s : State) : Type 0 where
+  pub row : (j : ℕ) → RowOk t (rowOf s j)
+  pub nothingTaken : (j : ℕ) → ifTaken (rowOf s j .fate) ≡ 0
+  pub nothingDelayed : s .delayed ≡ []
+  pub noneHeld : s .held ≡ 0
 
-idle-free : {ph : Phase} {t : ℕ} {s : State} → Wf ph t s → s .proc ≡ idle → Free t s
+pub idle-free : {ph : Phase} {t : ℕ} {s : State} → Wf ph t s → s .proc ≡ idle → Free t s
 unfolding occurs rowsOf stackOf heldBy
 idle-free {s = s} w e =
     let d : s .delayed ≡ [] = resting w e .nothingDelayed in
@@ -69,7 +69,7 @@ idle-free {s = s} w e =
       noneHeld = w .held ∙ ap (heldBy (s .rows)) d;
     }
 
-settled-free : {t r : ℕ} {s : State} → Wf opening t s → s .proc ≡ running r → leftOf s r ≡ 0 → s .delayed ≡ [] → Free t (settleFinished t r s)
+pub settled-free : {t r : ℕ} {s : State} → Wf opening t s → s .proc ≡ running r → leftOf s r ≡ 0 → s .delayed ≡ [] → Free t (settleFinished t r s)
 unfolding settleFinished occurs rowsOf heldBy
 settled-free {s = s} w e z d =
     record {
@@ -217,7 +217,7 @@ displaced-ok t taken j left k l = l refl
 displaced-ok t (finished u) j left k l = k
 displaced-ok t (dropped u) j left k l = k
 
-displaced-free : (f : Fate) → ifTaken (displaced f) ≡ 0
+pub displaced-free : (f : Fate) → ifTaken (displaced f) ≡ 0
 unfolding displaced ifTaken
 displaced-free waiting = refl
 displaced-free taken = refl
