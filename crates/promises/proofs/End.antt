@@ -79,7 +79,7 @@ none-later t [] (j ∷ js) a k =
 none-later t (j ∷ js) rest a k = none-later t js rest (and-eq-true-iff (leb (j .release) t) (allAnnounced (js ++ rest) t) .0 a .1) k
 
 module _ {p : Picks} (l : Lawful p) (jobs : List Job) (proper : Proper jobs) where
-  timely : (t : ℕ) → Timely t (releasedAt jobs t)
+  pub timely : (t : ℕ) → Timely t (releasedAt jobs t)
   timely t = released-timely 0 t jobs proper
 
   -- At the greatest deadline nothing runs: what ran would have to end later.

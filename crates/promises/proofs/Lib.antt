@@ -11,12 +11,17 @@ pub mod Fuel
 pub mod Always
 pub mod Room
 pub mod Jobs
+pub mod Carried
 pub mod Announced
 pub mod End
 pub mod Document
 pub mod Ticks
 pub mod Counting
 pub mod Earning
+pub mod Listed
 pub mod FirstHalf
 pub mod SecondHalf
+pub mod Served
+pub mod EarliestFirst
+pub mod AllFinished
 pub mod FourIsNeeded
