@@ -15,7 +15,7 @@ use Rattle.promises.proofs.Counting.{sumOver, occurs, Distinct, distinc
 use Rattle.promises.proofs.Earning.{jobOf, earnsRow-le}
 
 -- The row numbers of a list whose first row is numbered i.
-numbers : ℕ → List Job → List ℕ
+unfoldable pub numbers : ℕ → List Job → List ℕ
 numbers i [] = []
 numbers i (j ∷ js) = i ∷ numbers (suc i) js
 
@@ -25,7 +25,7 @@ numbers-fresh k i [] h = refl
 numbers-fresh k i (j ∷ js) h =
     omega (arith, goesTo-other i k (λ e. omega arith), numbers-fresh k (suc i) js (omega arith))
 
-numbers-distinct : (i : ℕ) (jobs : List Job) → Distinct (numbers i jobs)
+pub numbers-distinct : (i : ℕ) (jobs : List Job) → Distinct (numbers i jobs)
 unfolding numbers
 numbers-distinct i [] = distinct-nil
 numbers-distinct i (j ∷ js) =
