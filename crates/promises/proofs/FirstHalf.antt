@@ -18,17 +18,17 @@ use Rattle.promises.proofs.Counting.{sumOver, occurs, Distinct, distinc
 use Rattle.promises.proofs.Earning.{earnsRow-le}
 
 -- The row numbers of a list whose first row is numbered i.
-numbers : ℕ → List Row → List ℕ
+unfoldable pub numbers : {A : Type 0} → ℕ → List A → List ℕ
 numbers i [] = []
 numbers i (r ∷ rows) = i ∷ numbers (suc i) rows
 
-numbers-fresh : (k i : ℕ) (rows : List Row) → k < i → occurs k (numbers i rows) ≡ 0
+numbers-fresh : {A : Type 0} (k i : ℕ) (rows : List A) → k < i → occurs k (numbers i rows) ≡ 0
 unfolding numbers sumOver
 numbers-fresh k i [] h = refl
 numbers-fresh k i (r ∷ rows) h =
     omega (arith, goesTo-other i k (λ e. omega arith), numbers-fresh k (suc i) rows (omega arith))
 
-numbers-distinct : (i : ℕ) (rows : List Row) → Distinct (numbers i rows)
+pub numbers-distinct : {A : Type 0} (i : ℕ) (rows : List A) → Distinct (numbers i rows)
 unfolding numbers
 numbers-distinct i [] = distinct-nil
 numbers-distinct i (r ∷ rows) =

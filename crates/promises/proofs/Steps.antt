@@ -1,5 +1,5 @@
 -- The sub-steps of a tick as a relation between states: what A, B and C do, one change at a time, each with the facts under
--- which it happens. An invariant is proved by one clause for each (see Induction). Rests on the tick rules.
+-- which it happens. An invariant is proved by one clause for each (see Always). Rests on the tick rules.
 use Prim.Native.Nat.{ℕ, _+_, _*_, _≤_, _<_}
 use mathlib.Core.Path.{_≡_}
 use mathlib.Core.Option.{some}

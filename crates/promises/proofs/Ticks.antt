@@ -2,7 +2,7 @@
 -- Both halves of demand 3 count with them. Rests on Plan.
 use Prim.Native.Nat.{ℕ, zero, suc, _+_, _-_, _≤_, _<_, zero-le}
 use mathlib.Core.Option.{Option, none, some}
-use mathlib.Core.Path.{_≡_, refl, ap}
+use mathlib.Core.Path.{_≡_, refl, sym, ap, _∙_}
 use native.Mathlib.Nat.{le-refl, le-of-eq, add-zero, add-suc, suc-add, add-sub-of-le}
 use native.Mathlib.Decide.{decLe, ℕ-discrete}
 use native.Mathlib.Omega.{arith}
@@ -67,19 +67,35 @@ module _ (q : Plan) (i : ℕ) where
       go (yes e) k = (k e .0, k e .1, omega (arith, k e .2), k e .3)
       go (no e) k = (a + n, omega arith, omega arith, goesTo-some i (q (a + n)) (omega arith))
 
--- Row i gets at least as many ticks of another plan in another window, if each of its ticks lies there and is its own there too.
+-- Row i gets at least as many ticks of another plan in another window, if each tick that it gets lies there and is its own there too.
+pub ticks-lie : (q q′ : Plan) (i a n b m : ℕ)
+    → ((s : ℕ) → a ≤ s → s < a + n → q s ≡ some i → (b ≤ s) × (s < b + m) × (q′ s ≡ some i))
+    → ticks q i a n ≤ ticks q′ i b m
+unfolding ticks
+ticks-lie q q′ i a zero b m h = zero-le
+ticks-lie q q′ i a (suc n) b m h = go (decLe 1 (goesTo i (q (a + n)))) (ticks-lie q q′ i a n b)
+  where
+    go : Dec (1 ≤ goesTo i (q (a + n)))
+        → ((m′ : ℕ) → ((s : ℕ) → a ≤ s → s < a + n → q s ≡ some i → (b ≤ s) × (s < b + m′) × (q′ s ≡ some i)) → ticks q i a n ≤ ticks q′ i b m′)
+        → ticks q i a (suc n) ≤ ticks q′ i b m
+    go (yes o) k =
+        let e : q (a + n) ≡ some i = goesTo-some i (q (a + n)) o in
+        let l = h (a + n) (omega arith) (omega arith) e in
+        omega (
+          arith,
+          ticks-last q′ i b (a + n) m (l .0) (l .1),
+          k (a + n - b) (λ s x y z. let f = h s x (omega arith) z in (f .0, omega arith, f .2)),
+          ap (goesTo i) (e ∙ sym (l .2)),
+        )
+    go (no o) k = omega (arith, k m (λ s x y. h s x (omega arith)))
+
+-- So it does if the one window lies in the other and it loses no tick there.
 pub ticks-le : (q q′ : Plan) (i a n b m : ℕ)
     → ((s : ℕ) → a ≤ s → s < a + n → (b ≤ s) × (s < b + m) × (goesTo i (q s) ≤ goesTo i (q′ s)))
     → ticks q i a n ≤ ticks q′ i b m
-unfolding ticks
-ticks-le q q′ i a zero b m h = zero-le
-ticks-le q q′ i a (suc n) b m h =
-    let l = h (a + n) (omega arith) (omega arith) in
-    omega (
-      arith,
-      ticks-last q′ i b (a + n) m (l .0) (l .1),
-      ticks-le q q′ i a n b (a + n - b) (λ s x y. let k = h s x (omega arith) in (k .0, omega arith, k .2)),
-    )
+ticks-le q q′ i a n b m h =
+    ticks-lie q q′ i a n b m
+    (λ s x y e. let l = h s x y in (l .0, l .1, goesTo-some i (q′ s) (omega (arith, ap (goesTo i) e, goesTo-own i))))
 
 -- The plan with tick s given to x instead.
 unfoldable pub put : ℕ → Option ℕ → Plan → Plan

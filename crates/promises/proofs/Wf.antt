@@ -118,7 +118,7 @@ pub once-running : {ph : Phase} {t r : ℕ} {s : State} → Wf ph t s → s .pro
 unfolding occurs stackOf
 once-running {s = s} w e j = subst (λ (p : Proc). occurs j (stackOf p (s .delayed)) ≡ ifTaken (rowOf s j .fate)) e (w .once j)
 
-ifTaken-small : (f : Fate) → ifTaken f ≤ 1
+pub ifTaken-small : (f : Fate) → ifTaken f ≤ 1
 unfolding ifTaken
 ifTaken-small waiting = omega arith
 ifTaken-small taken = omega arith
