@@ -59,6 +59,15 @@ module _ (d : List ℕ) (at : ℕ) where
       ∙ ap (λ (x : List ℕ). take at d ++ v ++ w ++ x) (drop-drop (length w) (at + length v) d ∙ ap (λ (k : ℕ). drop k d) ends)
       ∙ ap (λ (x : List ℕ). x ++ drop (at + length (v ++ w)) d) (append-assoc (take at d) v w)
 
+-- A piece v laid at `at`, and then w where it ends, are v and w laid.
+pub join : (d d1 d2 : List ℕ) (at p : ℕ) (v w : List ℕ) → d1 ≡ laid d at v → at + length v ≡ p → p ≤ length d → d2 ≡ laid d1 p w
+    → d2 ≡ laid d at (v ++ w)
+join d d1 d2 at p v w e end room f =
+    f
+    ∙ ap (λ (x : List ℕ). laid x p w) e
+    ∙ ap (λ (k : ℕ). laid (laid d at v) k w) (sym end)
+    ∙ laid-next d at v w (omega arith)
+
 -- What is laid from the start on is followed by what the buffer held there.
 pub laid-start : (d w : List ℕ) → laid d 0 w ≡ w ++ drop (length w) d
 unfolding laid

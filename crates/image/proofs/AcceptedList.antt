@@ -10,11 +10,11 @@ use Rattle.fields.specs.Fields.{be2}
 use Rattle.fields.proofs.Laws.{Bytes}
 use Rattle.rules.specs.Job.{Job}
 use Rattle.image.specs.Rows.{nameAt, jobAt}
-use Rattle.image.specs.Refusals.{rowCount, rowBytes, listAnswer, releaseBefore}
+use Rattle.image.specs.Refusals.{rowCount, rowBytes, listAnswer}
 use Rattle.image.specs.Calls.{jobsOf}
 use Rattle.image.specs.Accepted.{AcceptedJobs, jobOf}
 use Rattle.image.proofs.Answers.{Accepted, list-accepted}
-use Rattle.image.proofs.GoodRows.{Good, all-good, other-names, proper-from, jobs-length, jobs-at}
+use Rattle.image.proofs.GoodRows.{Good, all-good, other-names, accepted-proper, jobs-length, jobs-at}
 
 -- Two bytes say at most 65,535.
 be2-small : (s : List ℕ) → Bytes s → (at : ℕ) → be2 s at ≤ 65535
@@ -26,7 +26,6 @@ drop-bytes : (k : ℕ) (s : List ℕ) → Bytes s → Bytes (drop k s)
 drop-bytes k s b i = rw (getD-drop k s i 0) (b (k + i))
 
 pub accepted-jobs : (s : List ℕ) → Bytes s → listAnswer s .number ≡ 0 → AcceptedJobs (jobsOf s)
-unfolding releaseBefore
 accepted-jobs s b e =
     let a = list-accepted s e in
     let rs = rowBytes s in
@@ -42,5 +41,5 @@ accepted-jobs s b e =
           other-names rs (nameAt rs j) j (good j (omega arith) .fresh) i l
           (ap (λ (x : Job). x .name) (sym (at i (omega arith))) ∙ same ∙ ap (λ (x : Job). x .name) (at j h));
       inTime = λ i h. rw (at i h) (good i (omega arith) .inTime);
-      proper = proper-from rs n 0 (λ j l h. good j (omega arith));
+      proper = accepted-proper rs n (a .rows);
     }

@@ -12,7 +12,7 @@ use lib.ListN.{length, getD}
 use borrow.Author.Tests.{ltb-false, eqb-false, eq-eqb, ne-eqb, eqb-true}
 use Rattle.fields.proofs.Laws.{Bytes}
 use Rattle.rules.specs.Choose.{choose}
-use Rattle.rules.specs.Job.{Job, Feasible, ProperFrom}
+use Rattle.rules.specs.Job.{Job, Feasible, ProperFrom, Proper}
 use Rattle.image.specs.Rows.{nameAt, releaseAt, costAt, deadlineAt, jobAt, jobsFrom}
 use Rattle.image.specs.Refusals.{refused, accepted, deadlineLimit, named, releaseBefore, rowNumber, rowFault, rowsFrom}
 use Rattle.image.specs.Accepted.{jobOf}
@@ -113,3 +113,12 @@ module _ (rs : List ℕ) where
   jobs-at zero i j h = absurd (omega arith)
   jobs-at (suc k) i zero h = ap (jobAt rs) (omega arith)
   jobs-at (suc k) i (suc j) h = jobs-at k (i + 1) j (le-of-suc-le-suc h) ∙ ap (jobAt rs) (omega arith)
+
+  -- The jobs of accepted rows are proper.
+  pub accepted-proper : (n : ℕ) → rowsFrom rs n 0 .number ≡ 0 → Proper (jobsFrom rs n 0)
+  unfolding releaseBefore
+  accepted-proper n e = proper-from n 0 (all-good n 0 e)
+
+  -- No cost of accepted rows is above the limit of deadlines.
+  pub accepted-costs : (n : ℕ) → rowsFrom rs n 0 .number ≡ 0 → (i : ℕ) → i < n → costAt rs i ≤ deadlineLimit
+  accepted-costs n e i h = let g = all-good n 0 e i (omega arith) (omega arith) in omega arith

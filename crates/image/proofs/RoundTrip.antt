@@ -11,8 +11,9 @@ use borrow.Author.Tests.{eq-eqb, le-ltb}
 use Rattle.rules.specs.Choose.{choose}
 use Rattle.fields.specs.Fields.{be2, be4, bytes2, bytes4}
 use Rattle.fields.proofs.Laws.{Bytes, be2-bytes2, be4-bytes4, bytes2-be2, bytes4-be4}
-use Rattle.image.specs.Refusals.{rowLimit, rowCount, rowBytes, rowsFrom, listAnswer, rowsAnswer}
-use Rattle.image.specs.Calls.{imageOf}
+use Rattle.image.specs.Refusals.{accepted, rowLimit, rowCount, rowBytes, rowsFrom, listAnswer, rowsAnswer}
+use Rattle.image.specs.Calls.{Called, imageOf, readCall, writeCall}
+use Rattle.image.proofs.Outcomes.{done}
 use Rattle.image.proofs.Laying.{image-length}
 use Rattle.image.proofs.Answers.{Accepted, list-accepted, AcceptedRows, rows-accepted}
 
@@ -76,3 +77,19 @@ module _ (rs : List ℕ) (e : rowsAnswer rs .number ≡ 0) where
         eq-eqb (be4 (imageOf rs) 0) (3 + 14 * rowCount (imageOf rs)) (omega (arith, field-written, count-written)),
       )
       (rw (read-write, count-written) (a .rows))
+
+-- The same of the calls, with any buffer that is long enough: what was read is written as the image it was read from,
+pub write-back : (s d : List ℕ) → Bytes s → listAnswer s .number ≡ 0 → length s ≤ length d
+    → writeCall (rowBytes s) d ≡ record { answer = accepted 0 (length s); buffer = s ++ drop (length s) d }
+write-back s d b e room =
+    let same = write-read s e b in
+    done (rowsAnswer (rowBytes s)) 0 (imageOf (rowBytes s)) d (read-accepted s e) (omega (arith, ap length same))
+    ∙ ap (λ (w : List ℕ). record { answer = accepted 0 (length w); buffer = w ++ drop (length w) d }) same
+
+-- and what was written is read as the rows it was written from.
+pub read-back : (rs d : List ℕ) → rowsAnswer rs .number ≡ 0 → length rs ≤ length d
+    → readCall (imageOf rs) d ≡ record { answer = accepted 0 (length rs); buffer = rs ++ drop (length rs) d }
+read-back rs d e room =
+    let same = read-write rs e in
+    done (listAnswer (imageOf rs)) 0 (rowBytes (imageOf rs)) d (written-accepted rs e) (omega (arith, ap length same))
+    ∙ ap (λ (w : List ℕ). record { answer = accepted 0 (length w); buffer = w ++ drop (length w) d }) same
