@@ -17,7 +17,6 @@ pub mod End
 pub mod Stretches
 pub mod StretchCount
 pub mod Ended
-pub mod AfterEnd
 pub mod Document
 pub mod Ticks
 pub mod Counting

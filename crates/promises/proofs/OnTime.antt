@@ -1,5 +1,5 @@
 -- The run as a plan: it gives each row, between its release and its deadline and before the end, just the ticks that the row's
--- state counts. So every finished row is finished on time, and the plan earns the run's value. Rests on Carried and AfterEnd.
+-- state counts. So every finished row is finished on time, and the plan earns the run's value. Rests on Carried and Ended.
 use Prim.Native.Nat.{ℕ, zero, suc, _+_, _-_, _≤_, _<_, zero-le}
 use native.Mathlib.Nat.{le-antisymm, zero-add, add-zero, add-suc, suc-add}
 use native.Mathlib.Omega.{arith}
@@ -22,7 +22,7 @@ use Rattle.promises.proofs.Wf.{FinishedOk, RowOk, Wf, leastLeft, fate-o
 use Rattle.promises.proofs.Always.{decidedAt, decidedAt-wf}
 use Rattle.promises.proofs.Carried.{decidedAt-carries, give-given}
 use Rattle.promises.proofs.End.{Settled, timely, run-ends, end-wf, end-rows, end-settled}
-use Rattle.promises.proofs.AfterEnd.{idle-after}
+use Rattle.promises.proofs.Ended.{idle-after}
 use Rattle.promises.proofs.Ticks.{ticks-lie}
 use Rattle.promises.proofs.Earning.{jobOf}
 use Rattle.promises.proofs.Listed.{job-at, listed}
