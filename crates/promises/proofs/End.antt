@@ -21,7 +21,7 @@ use Rattle.promises.proofs.Rows.{at-and-beside}
 use Rattle.promises.proofs.Steps.{Phase, deciding}
 use Rattle.promises.proofs.Wf.{ifTaken, leastLeft, Wf, resting, taken-lax, running-taken, idle-not-taken}
 use Rattle.promises.proofs.WithinTick.{Timely}
-use Rattle.promises.proofs.Always.{Kept, decidedAt, decidedAt-wf, always-decided}
+use Rattle.promises.proofs.Always.{Kept, decidedAt-wf, always-decided, decidedAt}
 use Rattle.promises.proofs.Jobs.{jobsOf}
 use Rattle.promises.proofs.Announced.{Split, released-timely, decided-split}
 

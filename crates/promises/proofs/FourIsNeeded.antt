@@ -7,9 +7,9 @@ use Rattle.rules.specs.Choose.{choose}
 use Rattle.rules.specs.Job.{Proper}
 use Rattle.rules.specs.Picks.{document}
 use Rattle.rules.specs.Result.{runResult}
-use Rattle.rules.proofs.Computed.{computed}
 use Rattle.promises.specs.Plan.{goesTo, ticks, earnsRow, earnsFrom, earns}
 use Rattle.promises.specs.FourIsNeeded.{chain, inShares, fillers}
+use Rattle.rules.proofs.Computed.{computed}
 
 -- The first row apart, since `omega` proves 64 parts at most.
 chain-proper : Proper chain

@@ -16,10 +16,10 @@ use Rattle.rules.specs.Result.{valueOf, valueOfRows}
 use Rattle.promises.specs.Plan.{Plan, earns}
 use Rattle.promises.specs.Lawful.{Lawful}
 use Rattle.promises.specs.Bound.{counted, count, isEarly, earlyValue, bound}
-use Rattle.promises.proofs.End.{timely, row-deadline, run-ends, end-rows}
+use Rattle.promises.proofs.Sums.{sumBy}
+use Rattle.promises.proofs.End.{row-deadline, timely, run-ends, end-rows}
 use Rattle.promises.proofs.Ended.{end-stays}
 use Rattle.promises.proofs.FirstHalf.{LateCovered, earns-at-most}
-use Rattle.promises.proofs.Sums.{sumBy}
 use Rattle.promises.proofs.Books.{lateCost, pays, paid}
 use Rattle.promises.proofs.Ledger.{Ledger, clear, ledger-along}
 use Rattle.promises.proofs.Windows.{late-covered}

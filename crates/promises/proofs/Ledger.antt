@@ -22,14 +22,14 @@ use Rattle.promises.specs.Lawful.{Waits, Due, IsFirst, Lawful}
 use Rattle.promises.specs.Bound.{decidedAt, droppedDeadline, reach, counts, counted, countFrom, count}
 use Rattle.rules.proofs.Choose.{by-test}
 use Rattle.promises.proofs.Rows.{Same, same-mark, same-append, getD-displaced, same-displaced, displaced-waits}
-use Rattle.promises.proofs.Stack.{heldBy, below-fits}
-use Rattle.promises.proofs.Steps.{Phase, Step, opening, offering, announcing, deciding, rests, runsOn, idles, startsFirst, resumes, resumesOffering, starts, preempts, waitsOn, appears, decides, takesOver, isDropped}
+use Rattle.promises.proofs.Sums.{sumBy}
+use Rattle.promises.proofs.Stack.{rowsOf, heldBy, below-fits}
+use Rattle.promises.proofs.Steps.{Phase, opening, offering, announcing, deciding, Step, rests, runsOn, idles, startsFirst, resumes, resumesOffering, starts, preempts, waitsOn, appears, decides, takesOver, isDropped}
 use Rattle.promises.proofs.Wf.{WaitingOk, fate-ok, leastLeft, Wf, busy, running-inside, running-taken}
 use Rattle.promises.proofs.WfKept.{Free, idle-free, settled-free, displaced-free}
 use Rattle.promises.proofs.WithinTick.{Timely}
 use Rattle.promises.proofs.Always.{KeptAlong, decidedAt-wf, along-decided}
 use Rattle.promises.proofs.Counting.{count-suc}
-use Rattle.promises.proofs.Sums.{sumBy}
 use Rattle.promises.proofs.Reach.{reach-covers, reach-displaced}
 use Rattle.promises.proofs.Books.{lateCost, lateCost-none, lateCost-whole, lateCost-small, pays, paid, keeps, stackLeft, Replaced, replaced, from-waiting, added, nothing-left, displaced-paid}
 
@@ -82,11 +82,11 @@ module _ {n t r : ℕ} {s : State} (w : Wf opening t s) (e : s .proc ≡ running
   finish-tight = rw (z, add-zero)
 
   finish-clear : s .delayed ≡ [] → Clear n t (settleFinished t r s .rows)
-  unfolding settleFinished pays keeps droppedDeadline heldBy
+  unfolding settleFinished pays keeps droppedDeadline sumBy rowsOf
   finish-clear d = omega (arith, finish-books, finish-tight, w .held, ap (heldBy (s .rows)) d)
 
   resume-owes : {x : Entry} {rest : List Entry} → s .delayed ≡ x ∷ rest → Owes n t (resume t x rest (settleFinished t r s)) (x .row)
-  unfolding settleFinished resume pays keeps droppedDeadline heldBy
+  unfolding settleFinished resume pays keeps droppedDeadline sumBy rowsOf
   resume-owes {x} d =
       omega (arith, finish-books, finish-tight, w .held, ap (heldBy (s .rows)) d, same-mark (s .rows) r (finished t) (x .row))
 

@@ -3,6 +3,7 @@
 -- what it rests on.
 pub mod Rows
 pub mod Sums
+pub mod RowNumbers
 pub mod Stack
 pub mod Steps
 pub mod Wf

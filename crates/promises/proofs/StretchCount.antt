@@ -24,10 +24,10 @@ use Rattle.rules.proofs.Choose.{by-test}
 use Rattle.promises.proofs.Rows.{Same, same-mark, same-append, getD-displaced, same-displaced}
 use Rattle.promises.proofs.Sums.{sumBy, sumBy-set, sumBy-bound, sumBy-append}
 use Rattle.promises.proofs.Stack.{below-fits}
-use Rattle.promises.proofs.Steps.{Phase, Step, NothingDue, opening, offering, announcing, deciding, rests, runsOn, idles, startsFirst, resumes, resumesOffering, starts, preempts, waitsOn, appears, decides, takesOver, isDropped}
-use Rattle.promises.proofs.Wf.{Wf, WaitingOk, fate-ok, leastLeft, busy, waits-inside, running-inside, running-taken, taken-lax}
+use Rattle.promises.proofs.Steps.{Phase, opening, offering, announcing, deciding, Step, rests, runsOn, idles, startsFirst, resumes, resumesOffering, starts, preempts, waitsOn, appears, decides, takesOver, isDropped, NothingDue}
+use Rattle.promises.proofs.Wf.{WaitingOk, fate-ok, leastLeft, Wf, busy, waits-inside, running-inside, taken-lax, running-taken}
 use Rattle.promises.proofs.WithinTick.{Timely}
-use Rattle.promises.proofs.Always.{Kept, decidedAt, before-wf, decidedAt-wf, always, always-decided}
+use Rattle.promises.proofs.Always.{Kept, before-wf, decidedAt-wf, always, always-decided, decidedAt}
 use Rattle.promises.proofs.End.{end-wf, end-rows, end-kept}
 
 taken-not-waiting : taken ≡ waiting → ⊥

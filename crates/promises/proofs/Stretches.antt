@@ -22,11 +22,11 @@ use Rattle.rules.specs.Run.{before, run}
 use Rattle.promises.specs.Lawful.{Lawful}
 use Rattle.rules.proofs.Choose.{by-test, by-both}
 use Rattle.promises.proofs.Rows.{all-set, set-keeps, all-append, getD-displaced}
-use Rattle.promises.proofs.Stack.{same, same-self, same-other}
-use Rattle.promises.proofs.Steps.{Phase, Step, deciding, rests, runsOn, idles, startsFirst, resumes, resumesOffering, starts, preempts, waitsOn, appears, decides, takesOver, isDropped}
-use Rattle.promises.proofs.Wf.{Wf, RowOk, leastLeft, busy, running-inside}
+use Rattle.promises.proofs.RowNumbers.{same, same-self, same-other}
+use Rattle.promises.proofs.Steps.{Phase, deciding, Step, rests, runsOn, idles, startsFirst, resumes, resumesOffering, starts, preempts, waitsOn, appears, decides, takesOver, isDropped}
+use Rattle.promises.proofs.Wf.{RowOk, leastLeft, Wf, busy, running-inside}
 use Rattle.promises.proofs.WithinTick.{Timely}
-use Rattle.promises.proofs.Always.{Kept, decidedAt, always, always-decided}
+use Rattle.promises.proofs.Always.{Kept, always, always-decided, decidedAt}
 use Rattle.promises.proofs.End.{end-kept}
 
 -- One of n rows has had ticks, none of them later than t.

@@ -9,19 +9,20 @@ use Rattle.rules.specs.Job.{Job, Proper}
 use Rattle.rules.specs.Picks.{Picks}
 use Rattle.rules.specs.Run.{run, greatestDeadline}
 use Rattle.rules.specs.Result.{valueOfRows}
-use Rattle.promises.specs.Lawful.{Lawful}
 use Rattle.promises.specs.Plan.{Plan, ticks, ticksInTime, earnsFrom}
 use Rattle.promises.specs.RunPlan.{runPlan}
+use Rattle.promises.specs.Lawful.{Lawful}
+use Rattle.promises.proofs.Sums.{sumBy}
+use Rattle.promises.proofs.RowNumbers.{numbers, numbers-distinct}
 use Rattle.promises.proofs.End.{run-ends}
-use Rattle.promises.proofs.Counting.{sumOver, counting-all}
+use Rattle.promises.proofs.Counting.{counting-all}
 use Rattle.promises.proofs.Earning.{jobOf, earnsRow-le}
-use Rattle.promises.proofs.FirstHalf.{numbers, numbers-distinct}
 use Rattle.promises.proofs.OnTime.{given-ticks, given-in-time, run-earns}
 
 -- A plan whose ticks in time all lie below n earns no more than the ticks below n that it gives to the list's rows.
 earns-below : (q : Plan) (n i : ℕ) (jobs : List Job) → ((k : ℕ) → ticksInTime q (i + k) (jobOf jobs k) ≤ ticks q (i + k) 0 n)
-    → earnsFrom q i jobs ≤ sumOver (λ k. ticks q k 0 n) (numbers i jobs)
-unfolding earnsFrom numbers sumOver
+    → earnsFrom q i jobs ≤ sumBy (λ k. ticks q k 0 n) (numbers i jobs)
+unfolding earnsFrom numbers sumBy
 earns-below q n i [] h = zero-le
 earns-below q n i (j ∷ js) h =
     omega (arith, earnsRow-le q i j, rw add-zero at (h 0), earns-below q n (suc i) js (λ k. rw (add-suc, ← suc-add) at (h (suc k))))

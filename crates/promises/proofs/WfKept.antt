@@ -15,8 +15,10 @@ use Rattle.rules.specs.LatestStarts.{displaced, displace, takeOver, dropRow}
 use Rattle.rules.specs.Give.{oneLess, giveTo, give}
 use Rattle.promises.specs.Lawful.{Waits, Due, IsFirst}
 use Rattle.promises.proofs.Rows.{all-set, set-keeps, Same, same-mark, all-append, same-append, same-beside, getD-displaced, same-displaced}
-use Rattle.promises.proofs.Stack.{same-self, same-other, occurs, rowsOf, stackOf, heldBy, Under, Below, below-keeps, held-keeps, below-fits}
-use Rattle.promises.proofs.Steps.{Phase, Step, NothingDue, opening, offering, announcing, deciding, rests, runsOn, idles, startsFirst, resumes, resumesOffering, starts, preempts, waitsOn, appears, decides, takesOver, isDropped}
+use Rattle.promises.proofs.Sums.{sumBy}
+use Rattle.promises.proofs.RowNumbers.{same-self, same-other, occurs}
+use Rattle.promises.proofs.Stack.{rowsOf, stackOf, heldBy, Under, Below, below-keeps, held-keeps, below-fits}
+use Rattle.promises.proofs.Steps.{Phase, opening, offering, announcing, deciding, Step, rests, runsOn, idles, startsFirst, resumes, resumesOffering, starts, preempts, waitsOn, appears, decides, takesOver, isDropped, NothingDue}
 use Rattle.promises.proofs.Wf.{WaitingOk, FateOk, RowOk, fate-ok, ifTaken, OfferWaits, leastLeft, Busy, ProcOk, Wf, resting, busy, waits-inside, waits-not-taken, once-running, leastLeft-small, running-inside, running-not-delayed, delayed-inside, taken-lax, running-taken, idle-not-taken}
 
 -- The rows after row i has met a fate that suits it.
@@ -45,7 +47,7 @@ module _ {t r : ℕ} {s : State} (w : Wf opening t s) (e : s .proc ≡ running r
       (record { through = z; past = omega arith; onTime = omega arith; enough = omega (arith, w .row r .since) })
 
   settled-once : (j : ℕ) → occurs j (rowsOf (s .delayed)) ≡ ifTaken (rowOf (settleFinished t r s) j .fate)
-  unfolding settleFinished occurs stackOf ifTaken
+  unfolding settleFinished sumBy stackOf ifTaken
   settled-once =
       once-mark (s .rows) r (finished t) (r ∷ rowsOf (s .delayed)) (rowsOf (s .delayed)) (running-inside w e) (once-running w e)
       (running-not-delayed w e)
@@ -59,7 +61,7 @@ pub record Free (t : ℕ) (s : State) : Type 0 where
   pub noneHeld : s .held ≡ 0
 
 pub idle-free : {ph : Phase} {t : ℕ} {s : State} → Wf ph t s → s .proc ≡ idle → Free t s
-unfolding occurs rowsOf stackOf heldBy
+unfolding sumBy rowsOf stackOf
 idle-free {s = s} w e =
     let d : s .delayed ≡ [] = resting w e .nothingDelayed in
     record {
@@ -70,7 +72,7 @@ idle-free {s = s} w e =
     }
 
 pub settled-free : {t r : ℕ} {s : State} → Wf opening t s → s .proc ≡ running r → leftOf s r ≡ 0 → s .delayed ≡ [] → Free t (settleFinished t r s)
-unfolding settleFinished occurs rowsOf heldBy
+unfolding settleFinished sumBy rowsOf
 settled-free {s = s} w e z d =
     record {
       row = settled-row w e z;
@@ -81,7 +83,7 @@ settled-free {s = s} w e z d =
 
 -- A and B: row i runs on a processor that has nothing else.
 start-wf : {t : ℕ} {s : State} → Free t s → (i : ℕ) → Waits (s .rows) i → Wf announcing t (start t i s)
-unfolding start leastLeft occurs rowsOf stackOf heldBy ifTaken
+unfolding start leastLeft sumBy rowsOf stackOf ifTaken
 start-wf {t} {s} f i w =
     let d : s .delayed ≡ [] = f .nothingDelayed in
     let h : i < length (s .rows) = waits-inside (s .rows) i w in
@@ -101,7 +103,7 @@ start-wf {t} {s} f i w =
 
 -- A: nothing is left to run.
 idle-wf : {t : ℕ} {s : State} → Free t s → ((j : ℕ) → Waits (s .rows) j → ⊥) → Wf announcing t (goIdle s)
-unfolding goIdle occurs rowsOf stackOf heldBy
+unfolding goIdle sumBy rowsOf stackOf
 idle-wf {t} {s} f n =
     let d : s .delayed ≡ [] = f .nothingDelayed in
     record {
@@ -116,7 +118,7 @@ idle-wf {t} {s} f n =
 resume-wf : {t r : ℕ} {s : State} {x : Entry} {rest : List Entry} (ph : Phase) → OfferWaits ph (settleFinished t r s .rows)
     → Wf opening t s → s .proc ≡ running r → leftOf s r ≡ 0 → s .delayed ≡ x ∷ rest
     → Wf ph t (resume t x rest (settleFinished t r s))
-unfolding settleFinished resume occurs rowsOf stackOf heldBy
+unfolding settleFinished resume sumBy rowsOf stackOf
 resume-wf {t} {r} {s} {x} {rest} ph o w e z d =
     let k : Below (s .rows) t (deadlineOf s r) (t + s .room + leftOf s r) (x ∷ rest) = subst (Below (s .rows) t _ _) d (busy w e .below) in
     let v : Under (s .rows) t (deadlineOf s r) (t + s .room + leftOf s r) x = k .0 in
@@ -137,7 +139,7 @@ resume-wf {t} {r} {s} {x} {rest} ph o w e z d =
 -- A and B: row i preempts row r. The room that is saved with r is exact for r and below; the new room is cut to fit i.
 preempt-wf : {t r i : ℕ} {s : State} → Wf (offering i) t s → s .proc ≡ running r → deadlineOf s i < deadlineOf s r → leftOf s i ≤ s .room
     → Wf announcing t (preempt t r i s)
-unfolding preempt leastLeft occurs rowsOf stackOf heldBy ifTaken
+unfolding preempt leastLeft sumBy rowsOf stackOf ifTaken
 preempt-wf {t} {r} {i} {s} w e earlier roomy =
     let h : i < length (s .rows) = waits-inside (s .rows) i (w .offer) in
     let k : WaitingOk t (rowOf s i .job) (rowOf s i .left) = fate-ok (w .row i) (w .offer) in
@@ -188,9 +190,10 @@ module _ {t : ℕ} {s : State} (w : Wf announcing t s) (j : Job) (released : j .
       }
 
   append-held : (p : Proc) → s .proc ≡ p → heldBy (append j s .rows) (s .delayed) ≡ heldBy (s .rows) (s .delayed)
-  unfolding append heldBy
+  unfolding append sumBy rowsOf
   append-held idle e = rw (resting w e .nothingDelayed)
-  append-held (running r) e = held-keeps (s .rows) _ (s .delayed) (λ i o. same-append (s .rows) _ i (delayed-inside w e i o))
+  append-held (running r) e =
+      held-keeps (s .rows) (append j s .rows) (s .delayed) (λ i o. same-append (s .rows) _ i (delayed-inside w e i o))
 
   append-wf : Wf (offering (length (s .rows))) t (append j s)
   unfolding append ifTaken
@@ -240,7 +243,7 @@ module _ {t r : ℕ} {s : State} (w : Wf deciding t s) (e : s .proc ≡ running 
       })
 
   takeOver-wf : (i : ℕ) → Due t (s .rows) i → Wf deciding t (takeOver i s)
-  unfolding takeOver displace leastLeft occurs rowsOf stackOf heldBy ifTaken
+  unfolding takeOver displace leastLeft sumBy rowsOf stackOf ifTaken
   takeOver-wf i due =
       let rows : List Row = map displace (s .rows) in
       let h : i < length rows = rw length-map (waits-inside (s .rows) i (due .0)) in
