@@ -11,8 +11,8 @@ use Rattle.rules.specs.State.{Fate, Row, Proc, State, fresh, noRow, rowOf, dead
 use Rattle.rules.specs.Picks.{Picks}
 use Rattle.rules.specs.Give.{oneLess, giveTo, give}
 use Rattle.rules.specs.Run.{tick, before, releasedAt, run}
-use Rattle.promises.specs.Plan.{Plan, goesTo, earns, allCosts}
-use Rattle.promises.specs.RunPlan.{runningRow}
+use Rattle.promises.specs.Plan.{jobOf, Plan, goesTo, earns, allCosts}
+use Rattle.promises.specs.RunPlan.{runningRow, decidedAt}
 use Rattle.promises.specs.Lawful.{Waits, Lawful}
 use Rattle.promises.proofs.Rows.{at-and-beside, set-keeps}
 use Rattle.promises.proofs.RowNumbers.{same-other}
@@ -20,10 +20,9 @@ use Rattle.promises.proofs.Stack.{below-lax}
 use Rattle.promises.proofs.Steps.{Phase, opening, deciding}
 use Rattle.promises.proofs.Wf.{fate-ok, ifTaken, leastLeft, Wf, resting, busy, once-running, running-inside, idle-not-taken}
 use Rattle.promises.proofs.WithinTick.{met-keeps}
-use Rattle.promises.proofs.Always.{before-wf, decidedAt-met, decidedAt-wf, decidedAt}
+use Rattle.promises.proofs.Always.{before-wf, decidedAt-met, decidedAt-wf}
 use Rattle.promises.proofs.End.{Settled, timely, run-ends, end-settled}
 use Rattle.promises.proofs.Ticks.{goesTo-own}
-use Rattle.promises.proofs.Earning.{jobOf}
 use Rattle.promises.proofs.SecondHalf.{serves-start, serves-idle, serves-run}
 use Rattle.promises.proofs.Carried.{step-carries, decidedAt-carries, give-given}
 use Rattle.promises.proofs.Listed.{listed, unlisted}

@@ -10,8 +10,8 @@ use Rattle.rules.specs.State.{State, fresh}
 use Rattle.rules.specs.Picks.{Picks}
 use Rattle.rules.specs.Give.{give}
 use Rattle.rules.specs.Run.{tick, before}
+use Rattle.promises.specs.RunPlan.{decidedAt}
 use Rattle.promises.specs.Lawful.{Lawful}
-pub use Rattle.promises.specs.Bound.{decidedAt}
 use Rattle.promises.proofs.Rows.{finished-not-waiting}
 use Rattle.promises.proofs.Sums.{sumBy}
 use Rattle.promises.proofs.Stack.{rowsOf, stackOf}

@@ -17,13 +17,13 @@ use Rattle.rules.specs.LatestStarts.{displace, takeOver, dropRow}
 use Rattle.rules.specs.Give.{oneLess, giveTo, give}
 use Rattle.rules.specs.Run.{before}
 use Rattle.promises.specs.Plan.{goesTo}
-use Rattle.promises.specs.RunPlan.{runningRow}
+use Rattle.promises.specs.RunPlan.{runningRow, decidedAt}
 use Rattle.promises.specs.Lawful.{Lawful}
 use Rattle.promises.proofs.Rows.{at-and-beside, set-keeps, all-append, getD-displaced}
 use Rattle.promises.proofs.Steps.{Phase, deciding, Step, rests, runsOn, idles, startsFirst, resumes, resumesOffering, starts, preempts, waitsOn, appears, decides, takesOver, isDropped}
 use Rattle.promises.proofs.Wf.{RowOk, leastLeft, Busy, Wf, busy, running-inside}
 use Rattle.promises.proofs.WithinTick.{met-keeps, Timely}
-use Rattle.promises.proofs.Always.{before-wf, decidedAt-met, decidedAt}
+use Rattle.promises.proofs.Always.{before-wf, decidedAt-met}
 use Rattle.promises.proofs.Ticks.{goesTo-own, goesTo-other}
 
 -- No row is lost, each keeps its job, and none was given a tick. (A row that is not there was given none either.)

@@ -17,8 +17,8 @@ use Rattle.rules.specs.Finish.{finishOf}
 use Rattle.rules.specs.LatestStarts.{decide, decideAll, latestStarts}
 use Rattle.rules.specs.Give.{giveTo, give}
 use Rattle.rules.specs.Run.{decided, tick, before, releasedAt, allAnnounced, greatestDeadline, run}
+use Rattle.promises.specs.RunPlan.{decidedAt}
 use Rattle.promises.specs.Lawful.{Waits, Lawful}
-use Rattle.promises.specs.Bound.{decidedAt}
 use Rattle.promises.proofs.Wf.{resting}
 use Rattle.promises.proofs.WithinTick.{if-found}
 use Rattle.promises.proofs.Always.{decidedAt-wf}

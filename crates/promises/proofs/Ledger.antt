@@ -18,8 +18,9 @@ use Rattle.rules.specs.Announce.{start, preempt, append}
 use Rattle.rules.specs.Finish.{settleFinished, goIdle, resume}
 use Rattle.rules.specs.LatestStarts.{displace, takeOver, dropRow}
 use Rattle.rules.specs.Give.{oneLess, giveTo, give}
+use Rattle.promises.specs.RunPlan.{decidedAt}
 use Rattle.promises.specs.Lawful.{Waits, Due, IsFirst, Lawful}
-use Rattle.promises.specs.Bound.{decidedAt, droppedDeadline, reach, counts, counted, countFrom, count}
+use Rattle.promises.specs.Bound.{droppedDeadline, reach, counts, counted, countFrom, count}
 use Rattle.rules.proofs.Choose.{by-test}
 use Rattle.promises.proofs.Rows.{Same, same-mark, same-append, getD-displaced, same-displaced, displaced-waits}
 use Rattle.promises.proofs.Sums.{sumBy}

@@ -10,10 +10,10 @@ use Rattle.rules.specs.Job.{Job, ProperFrom, Proper}
 use Rattle.rules.specs.State.{Row, State, noRow, rowOf}
 use Rattle.rules.specs.Picks.{Picks}
 use Rattle.rules.specs.Run.{releasedAt}
-use Rattle.promises.proofs.Always.{decidedAt}
+use Rattle.promises.specs.Plan.{jobOf}
+use Rattle.promises.specs.RunPlan.{decidedAt}
 use Rattle.promises.proofs.Jobs.{jobsOf}
 use Rattle.promises.proofs.Announced.{Split, decided-split}
-use Rattle.promises.proofs.Earning.{jobOf}
 
 -- Row i of the state has the job that stands at i among the state's jobs.
 pub job-at : (s : State) (i : ℕ) → jobOf (jobsOf s) i ≡ rowOf s i .job

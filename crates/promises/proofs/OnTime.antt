@@ -14,16 +14,15 @@ use Rattle.rules.specs.State.{Fate, Row, Proc, State, fresh, noRow, rowOf, give
 use Rattle.rules.specs.Picks.{Picks}
 use Rattle.rules.specs.Run.{tick, before, releasedAt, run}
 use Rattle.rules.specs.Result.{valueOf, valueOfRows}
-use Rattle.promises.specs.Plan.{Plan, ticks, ticksInTime, earnsRow, earnsFrom, earns}
-use Rattle.promises.specs.RunPlan.{runningRow, runPlan}
+use Rattle.promises.specs.Plan.{jobOf, Plan, ticks, ticksInTime, earnsRow, earnsFrom, earns}
+use Rattle.promises.specs.RunPlan.{runningRow, decidedAt, runPlan}
 use Rattle.promises.specs.Lawful.{Lawful}
 use Rattle.promises.proofs.Steps.{deciding}
 use Rattle.promises.proofs.Wf.{FinishedOk, RowOk, fate-ok, leastLeft, Wf, running-inside, taken-lax, running-taken}
-use Rattle.promises.proofs.Always.{decidedAt-wf, decidedAt}
+use Rattle.promises.proofs.Always.{decidedAt-wf}
 use Rattle.promises.proofs.End.{Settled, timely, run-ends, end-wf, end-rows, end-settled}
 use Rattle.promises.proofs.Ended.{idle-after}
 use Rattle.promises.proofs.Ticks.{ticks-lie}
-use Rattle.promises.proofs.Earning.{jobOf}
 use Rattle.promises.proofs.Carried.{decidedAt-carries, give-given}
 use Rattle.promises.proofs.Listed.{job-at, listed}
 

@@ -8,12 +8,12 @@ use native.Mathlib.Nat.{le-refl, le-trans, zero-add}
 use native.Mathlib.Decide.{decLe, ℕ-discrete}
 use native.Mathlib.Omega.{arith}
 use Rattle.rules.specs.Job.{Job}
-use Rattle.promises.specs.Plan.{Plan, goesTo, ticks, earns, allCosts}
+use Rattle.promises.specs.Plan.{jobOf, Plan, goesTo, ticks, earns, allCosts}
 use Rattle.promises.proofs.Sums.{sumBy}
 use Rattle.promises.proofs.RowNumbers.{occurs, over-le, Distinct}
 use Rattle.promises.proofs.Ticks.{goesTo-own, goesTo-other, ticks-first, ticks-some, ticks-le, put, put-at, swap, ticks-swap, ticks-swap-off}
 use Rattle.promises.proofs.Counting.{counting-all}
-use Rattle.promises.proofs.Earning.{jobOf, earns-all}
+use Rattle.promises.proofs.Earning.{earns-all}
 
 -- Every row gets what is left of it before its deadline: from tick t on if it is released by then, else from its release on.
 -- A finished row has nothing left; a row still to be announced has all its cost left.

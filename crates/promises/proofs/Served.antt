@@ -8,7 +8,7 @@ use mathlib.Core.List.{List, [], _∷_}
 use lib.ListN.{length, getD}
 use Rattle.rules.specs.Job.{Job}
 use Rattle.rules.specs.State.{Row, State, noRow, rowOf, deadlineOf, leftOf, given, running}
-use Rattle.promises.specs.Plan.{Plan}
+use Rattle.promises.specs.Plan.{jobOf, Plan}
 use Rattle.promises.specs.Lawful.{Waits, Due}
 use Rattle.promises.proofs.Rows.{at-and-beside}
 use Rattle.promises.proofs.Sums.{sumBy}
@@ -17,7 +17,6 @@ use Rattle.promises.proofs.Stack.{rowsOf}
 use Rattle.promises.proofs.Steps.{Phase}
 use Rattle.promises.proofs.Wf.{WaitingOk, RowOk, fate-ok, ifTaken, Wf, waits-inside, taken-inside, once-running, ifTaken-small}
 use Rattle.promises.proofs.Room.{leftSum, Tight, room-tight}
-use Rattle.promises.proofs.Earning.{jobOf}
 use Rattle.promises.proofs.SecondHalf.{Serves, serves-demand}
 use Rattle.promises.proofs.Carried.{Carries}
 

@@ -19,6 +19,7 @@ use Rattle.rules.specs.Finish.{settleFinished, goIdle, resume}
 use Rattle.rules.specs.LatestStarts.{displaced, displace, takeOver, dropRow}
 use Rattle.rules.specs.Give.{stretch, oneLess, giveTo}
 use Rattle.rules.specs.Run.{before, run}
+use Rattle.promises.specs.RunPlan.{decidedAt}
 use Rattle.promises.specs.Lawful.{Waits, Due, IsFirst, Lawful}
 use Rattle.rules.proofs.Choose.{by-test}
 use Rattle.promises.proofs.Rows.{Same, same-mark, same-append, getD-displaced, same-displaced}
@@ -27,7 +28,7 @@ use Rattle.promises.proofs.Stack.{below-fits}
 use Rattle.promises.proofs.Steps.{Phase, opening, offering, announcing, deciding, Step, rests, runsOn, idles, startsFirst, resumes, resumesOffering, starts, preempts, waitsOn, appears, decides, takesOver, isDropped, NothingDue}
 use Rattle.promises.proofs.Wf.{WaitingOk, fate-ok, leastLeft, Wf, busy, waits-inside, running-inside, taken-lax, running-taken}
 use Rattle.promises.proofs.WithinTick.{Timely}
-use Rattle.promises.proofs.Always.{Kept, before-wf, decidedAt-wf, always, always-decided, decidedAt}
+use Rattle.promises.proofs.Always.{Kept, before-wf, decidedAt-wf, always, always-decided}
 use Rattle.promises.proofs.End.{end-wf, end-rows, end-kept}
 
 taken-not-waiting : taken ≡ waiting → ⊥

@@ -19,6 +19,7 @@ use Rattle.rules.specs.Finish.{settleFinished, goIdle, resume}
 use Rattle.rules.specs.LatestStarts.{displace, takeOver, dropRow}
 use Rattle.rules.specs.Give.{stretch, oneLess, giveTo}
 use Rattle.rules.specs.Run.{before, run}
+use Rattle.promises.specs.RunPlan.{decidedAt}
 use Rattle.promises.specs.Lawful.{Lawful}
 use Rattle.rules.proofs.Choose.{by-test, by-both}
 use Rattle.promises.proofs.Rows.{all-set, set-keeps, all-append, getD-displaced}
@@ -26,7 +27,7 @@ use Rattle.promises.proofs.RowNumbers.{same, same-self, same-other}
 use Rattle.promises.proofs.Steps.{Phase, deciding, Step, rests, runsOn, idles, startsFirst, resumes, resumesOffering, starts, preempts, waitsOn, appears, decides, takesOver, isDropped}
 use Rattle.promises.proofs.Wf.{RowOk, leastLeft, Wf, busy, running-inside}
 use Rattle.promises.proofs.WithinTick.{Timely}
-use Rattle.promises.proofs.Always.{Kept, always, always-decided, decidedAt}
+use Rattle.promises.proofs.Always.{Kept, always, always-decided}
 use Rattle.promises.proofs.End.{end-kept}
 
 -- One of n rows has had ticks, none of them later than t.

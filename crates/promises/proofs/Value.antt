@@ -9,14 +9,14 @@ use Rattle.rules.specs.Job.{Job, Proper}
 use Rattle.rules.specs.Picks.{Picks}
 use Rattle.rules.specs.Run.{run, greatestDeadline}
 use Rattle.rules.specs.Result.{valueOfRows}
-use Rattle.promises.specs.Plan.{Plan, ticks, ticksInTime, earnsFrom}
+use Rattle.promises.specs.Plan.{jobOf, Plan, ticks, ticksInTime, earnsFrom}
 use Rattle.promises.specs.RunPlan.{runPlan}
 use Rattle.promises.specs.Lawful.{Lawful}
 use Rattle.promises.proofs.Sums.{sumBy}
 use Rattle.promises.proofs.RowNumbers.{numbers, numbers-distinct}
 use Rattle.promises.proofs.End.{run-ends}
 use Rattle.promises.proofs.Counting.{counting-all}
-use Rattle.promises.proofs.Earning.{jobOf, earnsRow-le}
+use Rattle.promises.proofs.Earning.{earnsRow-le}
 use Rattle.promises.proofs.OnTime.{given-ticks, given-in-time, run-earns}
 
 -- A plan whose ticks in time all lie below n earns no more than the ticks below n that it gives to the list's rows.

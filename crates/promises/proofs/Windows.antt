@@ -15,8 +15,9 @@ use Rattle.rules.specs.Announce.{start, preempt, append}
 use Rattle.rules.specs.Finish.{settleFinished, goIdle, resume}
 use Rattle.rules.specs.LatestStarts.{displaced, displace, takeOver, dropRow}
 use Rattle.rules.specs.Give.{oneLess, giveTo}
+use Rattle.promises.specs.RunPlan.{decidedAt}
 use Rattle.promises.specs.Lawful.{Waits, IsFirst, Lawful}
-use Rattle.promises.specs.Bound.{decidedAt, droppedDeadline, reach, counts, counted, isEarly}
+use Rattle.promises.specs.Bound.{droppedDeadline, reach, counts, counted, isEarly}
 use Rattle.promises.proofs.Rows.{at-and-beside, all-set, set-keeps, all-append, getD-displaced, displaced-waits}
 use Rattle.promises.proofs.Steps.{Phase, opening, deciding, Step, rests, runsOn, idles, startsFirst, resumes, resumesOffering, starts, preempts, waitsOn, appears, decides, takesOver, isDropped}
 use Rattle.promises.proofs.Wf.{fate-ok, ifTaken, Wf, resting, waits-inside, running-inside, running-taken, idle-not-taken}
