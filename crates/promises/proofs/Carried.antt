@@ -87,6 +87,23 @@ step-carries {s = s} (decides) = carries-all (s .rows)
 step-carries {s = s} (takesOver i e due costly) = carries-on (carries-displaced (s .rows)) (carries-mark i taken _)
 step-carries {t} {s = s} (isDropped i e due cheap) = carries-mark i (dropped t) (s .rows)
 
+-- They leave the stretches as they are.
+pub step-stretches : {t : ℕ} {ph ph′ : Phase} {s s′ : State} → Step t ph s ph′ s′ → s′ .stretches ≡ s .stretches
+unfolding goIdle start preempt append takeOver dropRow resume settleFinished
+step-stretches (rests e) = refl
+step-stretches (runsOn e u) = refl
+step-stretches (idles e z d n) = refl
+step-stretches (startsFirst i e z d f) = refl
+step-stretches (resumes e z d n) = refl
+step-stretches (resumesOffering e z d f n) = refl
+step-stretches (starts e) = refl
+step-stretches (preempts e earlier roomy) = refl
+step-stretches (waitsOn e n) = refl
+step-stretches (appears j released feasible) = refl
+step-stretches (decides) = refl
+step-stretches (takesOver i e due costly) = refl
+step-stretches (isDropped i e due cheap) = refl
+
 -- What is decided in tick n leaves the rows so.
 pub decidedAt-carries : {p : Picks} → Lawful p → (released : ℕ → List Job) → ((t : ℕ) → Timely t (released t))
     → (n : ℕ) → Carries (before p released n .rows) (decidedAt p released n .rows)
@@ -98,7 +115,7 @@ decidedAt-carries {p} l released timely n =
     (decidedAt-met l released timely n)
 
 -- D: the running row is given one tick more, and no other row any.
-giveTo-given : {t : ℕ} {s : State} → Wf deciding t s → (pr : Proc) → s .proc ≡ pr
+pub giveTo-given : {t : ℕ} {s : State} → Wf deciding t s → (pr : Proc) → s .proc ≡ pr
     → (i : ℕ) → given (rowOf (giveTo pr t s) i) ≡ given (rowOf s i) + goesTo i (runningRow pr)
 unfolding giveTo oneLess goesTo runningRow leastLeft
 giveTo-given w idle e = λ i. omega arith

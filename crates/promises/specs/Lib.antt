@@ -4,4 +4,5 @@ pub mod Plan
 pub mod RunPlan
 pub mod Lawful
 pub mod Bound
+pub mod Stretches
 pub mod FourIsNeeded
