@@ -11,6 +11,7 @@ use Rattle.rules.specs.State.{Fate, Row, Proc, State, fresh, noRow, rowOf, dead
 use Rattle.rules.specs.Picks.{Picks}
 use Rattle.rules.specs.Give.{oneLess, giveTo, give}
 use Rattle.rules.specs.Run.{tick, before, releasedAt, run}
+use Rattle.rules.specs.Result.{outcomeNumber}
 use Rattle.promises.specs.Plan.{jobOf, Plan, goesTo, earns, allCosts}
 use Rattle.promises.specs.RunPlan.{runningRow, decidedAt}
 use Rattle.promises.specs.Lawful.{Waits, Lawful}
@@ -95,14 +96,11 @@ module _ {jobs : List Job} {q : Plan} {t : ℕ} {s : State} (w : Wf deciding t s
       (omega (arith, give-given w r, ap (λ (pr : Proc). goesTo r (runningRow pr)) e, goesTo-own r))
       (λ i n. omega (arith, give-given w i))
 
--- The row was finished, at some tick u.
-abbrev pub Finished : Fate → Type 0
-Finished f = (u : ℕ) × (f ≡ finished u)
-
-finished-or : (f : Fate) → Settled f → NotDropped f → Finished f
+finished-or : (f : Fate) → Settled f → NotDropped f → outcomeNumber f ≡ 1
+unfolding outcomeNumber
 finished-or waiting k n = absurd k
 finished-or taken k n = absurd k
-finished-or (finished u) k n = (u, refl)
+finished-or (finished u) k n = refl
 finished-or (dropped u) k n = absurd n
 
 -- Where the run stands before tick n: some plan serves all that remains, and the earliest deadline runs.
@@ -146,9 +144,9 @@ module _ {p : Picks} (l : Lawful p) (jobs : List Job) (proper : Proper jobs) whe
         let on = serves-on (decidedAt-wf l (releasedAt jobs) (timely l jobs proper) n) (ahead-served n a) f (unlisted p jobs proper n) (s .proc) refl in
         record { plan = on .0; serves = on .1; foremost = giveTo-foremost n s (s .proc) refl f }
 
-    -- Every row of the list is finished.
-    pub all-finished : (j : ℕ) → j < length jobs → Finished (rowOf (run p jobs .state) j .fate)
-    all-finished j h =
+    -- Every row is finished.
+    pub all-finished : (j : ℕ) → outcomeNumber (rowOf (run p jobs .state) j .fate) ≡ 1
+    all-finished j =
         let e : run p jobs .state ≡ decidedAt p (releasedAt jobs) (run p jobs .tick) = run-ends l jobs proper .state in
         finished-or (rowOf (run p jobs .state) j .fate) (end-settled l jobs proper j)
         (subst (λ (s : State). NotDropped (rowOf s j .fate)) (sym e) (ahead-foremost (run p jobs .tick) (always-ahead (run p jobs .tick)) .noneDropped j))

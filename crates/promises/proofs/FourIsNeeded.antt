@@ -8,7 +8,8 @@ use Rattle.rules.specs.Job.{Proper}
 use Rattle.rules.specs.Picks.{document}
 use Rattle.rules.specs.Result.{runResult}
 use Rattle.promises.specs.Plan.{goesTo, ticks, earnsRow, earnsFrom, earns}
-use Rattle.promises.specs.FourIsNeeded.{chain, inShares, fillers}
+use Rattle.promises.specs.SmallPlans.{inShares}
+use Rattle.promises.specs.FourIsNeeded.{chain, fillers}
 use Rattle.rules.proofs.Computed.{computed}
 
 -- The first row apart, since `omega` proves 64 parts at most.

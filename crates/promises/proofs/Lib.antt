@@ -36,4 +36,7 @@ pub mod EarliestFirst
 pub mod AllFinished
 pub mod OnTime
 pub mod Value
+pub mod SmallPlans
 pub mod FourIsNeeded
+pub mod Shown
+pub mod Main

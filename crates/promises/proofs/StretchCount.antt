@@ -7,7 +7,7 @@ use native.Mathlib.Decide.{decLe}
 use mathlib.Core.Path.{_≡_, refl, sym, ap, subst, _∙_}
 use mathlib.Core.Logic.{_≢_}
 use mathlib.Core.List.{List, [], _∷_, _++_, map}
-use lib.ListN.{length, getD, set, length-set, length-map}
+use lib.ListN.{length, getD, set, length-set}
 use lib.Seq.{getD-set-same, getD-set-other}
 use borrow.Author.Tests.{eq-eqb}
 use Rattle.rules.specs.Choose.{choose}
@@ -29,7 +29,8 @@ use Rattle.promises.proofs.Steps.{Phase, opening, offering, announcing,
 use Rattle.promises.proofs.Wf.{WaitingOk, fate-ok, leastLeft, Wf, busy, waits-inside, running-inside, taken-lax, running-taken}
 use Rattle.promises.proofs.WithinTick.{Timely}
 use Rattle.promises.proofs.Always.{Kept, before-wf, decidedAt-wf, always, always-decided}
-use Rattle.promises.proofs.End.{end-wf, end-rows, end-kept}
+use Rattle.promises.proofs.End.{end-wf, end-kept}
+use Rattle.promises.proofs.Listed.{end-length}
 
 taken-not-waiting : taken ≡ waiting → ⊥
 taken-not-waiting e = let z : _≡_ {A = ℕ} 0 1 = cc in omega arith
@@ -315,6 +316,5 @@ module _ {p : Picks} (l : Lawful p) where
       omega (
         arith,
         counted-bound (end-wf l jobs proper) (end-kept l jobs proper Counted counted-kept),
-        length-map (run p jobs .state .rows) (λ (r : Row). r .job),
-        ap length (end-rows l jobs proper),
+        end-length l jobs proper,
       )

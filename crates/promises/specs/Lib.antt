@@ -5,4 +5,6 @@ pub mod RunPlan
 pub mod Lawful
 pub mod Bound
 pub mod Stretches
+pub mod Demands
+pub mod SmallPlans
 pub mod FourIsNeeded
