@@ -22,11 +22,11 @@ use Rattle.promises.proofs.Steps.{Phase, opening, deciding}
 use Rattle.promises.proofs.Wf.{fate-ok, ifTaken, leastLeft, Wf, resting, busy, once-running, running-inside, idle-not-taken}
 use Rattle.promises.proofs.WithinTick.{met-keeps}
 use Rattle.promises.proofs.Always.{before-wf, decidedAt-met, decidedAt-wf}
+use Rattle.promises.proofs.Carried.{step-carries, decidedAt-carries, give-given}
 use Rattle.promises.proofs.End.{Settled, timely, run-ends, end-settled}
+use Rattle.promises.proofs.Listed.{listed, unlisted}
 use Rattle.promises.proofs.Ticks.{goesTo-own}
 use Rattle.promises.proofs.SecondHalf.{serves-start, serves-idle, serves-run}
-use Rattle.promises.proofs.Carried.{step-carries, decidedAt-carries, give-given}
-use Rattle.promises.proofs.Listed.{listed, unlisted}
 use Rattle.promises.proofs.Served.{owed, ServesOwed, Served, serves-less, served-before, announced}
 use Rattle.promises.proofs.EarliestFirst.{Earliest, NotDropped, Foremost, foremost-runs, phase-foremost, foremost-step}
 

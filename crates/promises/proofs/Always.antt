@@ -17,7 +17,7 @@ use Rattle.promises.proofs.Sums.{sumBy}
 use Rattle.promises.proofs.Stack.{rowsOf, stackOf}
 use Rattle.promises.proofs.Steps.{Phase, opening, deciding, Step, NothingDue}
 use Rattle.promises.proofs.Wf.{ifTaken, Wf}
-use Rattle.promises.proofs.WfKept.{give-wf}
+use Rattle.promises.proofs.WfGiven.{give-wf}
 use Rattle.promises.proofs.WithinTick.{Met, met-wf, met-keeps, Timely, decided-met}
 use Rattle.promises.proofs.Fuel.{nothing-due}
 

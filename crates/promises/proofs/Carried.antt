@@ -20,11 +20,11 @@ use Rattle.promises.specs.Plan.{goesTo}
 use Rattle.promises.specs.RunPlan.{runningRow, decidedAt}
 use Rattle.promises.specs.Lawful.{Lawful}
 use Rattle.promises.proofs.Rows.{at-and-beside, set-keeps, all-append, getD-displaced}
+use Rattle.promises.proofs.RowNumbers.{same, same-self, same-other}
 use Rattle.promises.proofs.Steps.{Phase, deciding, Step, rests, runsOn, idles, startsFirst, resumes, resumesOffering, starts, preempts, waitsOn, appears, decides, takesOver, isDropped}
 use Rattle.promises.proofs.Wf.{RowOk, leastLeft, Busy, Wf, busy, running-inside}
 use Rattle.promises.proofs.WithinTick.{met-keeps, Timely}
 use Rattle.promises.proofs.Always.{before-wf, decidedAt-met}
-use Rattle.promises.proofs.Ticks.{goesTo-own, goesTo-other}
 
 -- No row is lost, each keeps its job, and none was given a tick. (A row that is not there was given none either.)
 pub record Carries (rows rows′ : List Row) : Type 0 where
@@ -117,15 +117,15 @@ decidedAt-carries {p} l released timely n =
 -- D: the running row is given one tick more, and no other row any.
 pub giveTo-given : {t : ℕ} {s : State} → Wf deciding t s → (pr : Proc) → s .proc ≡ pr
     → (i : ℕ) → given (rowOf (giveTo pr t s) i) ≡ given (rowOf s i) + goesTo i (runningRow pr)
-unfolding giveTo oneLess goesTo runningRow leastLeft
+unfolding giveTo oneLess goesTo same runningRow leastLeft
 giveTo-given w idle e = λ i. omega arith
 giveTo-given {t} {s} w (running r) e =
     let x : Row = oneLess (rowOf s r) in
     let k : RowOk t (rowOf s r) = w .row r in
     let b : Busy deciding t s r = busy w e in
     at-and-beside (λ (i : ℕ). given (getD (set (s .rows) r x) i noRow) ≡ given (rowOf s i) + goesTo i (some r)) r
-    (omega (arith, ap (λ (y : Row). given y) (getD-set-same (s .rows) r x noRow (running-inside w e)), goesTo-own r, k .within, b .unfinished))
-    (λ i n. omega (arith, ap (λ (y : Row). given y) (getD-set-other (s .rows) r i x noRow n), goesTo-other i r (λ q. n (sym q))))
+    (omega (arith, ap (λ (y : Row). given y) (getD-set-same (s .rows) r x noRow (running-inside w e)), same-self r, k .within, b .unfinished))
+    (λ i n. omega (arith, ap (λ (y : Row). given y) (getD-set-other (s .rows) r i x noRow n), same-other r i (λ q. n (sym q))))
 
 pub give-given : {t : ℕ} {s : State} → Wf deciding t s → (i : ℕ) → given (rowOf (give t s) i) ≡ given (rowOf s i) + goesTo i (runningRow (s .proc))
 give-given {s = s} w = giveTo-given w (s .proc) refl

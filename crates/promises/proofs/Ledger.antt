@@ -123,7 +123,7 @@ module _ {n t r : ℕ} {s : State} (w : Wf deciding t s) (e : s .proc ≡ runnin
   takeOver-owes costly =
       let rows : List Row = map displace (s .rows) in
       let k : WaitingOk t (rowOf s i .job) (rowOf s i .left) = fate-ok (w .row i) (due .0) in
-      let l : deadlineOf s i - leftOf s i ≡ t = due .1 in
+      let l : deadlineOf s i - leftOf s i ≡ t = omega (arith, due .1) in
       let m : Same (s .rows) rows i = same-displaced (s .rows) i in
       let o : Same rows (mark i taken rows) i = same-mark rows i taken i in
       let none : stackLeft rows ≡ 0 = nothing-left rows (λ j. rw (getD-displaced (s .rows) j) (displaced-free (rowOf s j .fate))) in
@@ -142,7 +142,7 @@ module _ {n t r : ℕ} {s : State} (w : Wf deciding t s) (e : s .proc ≡ runnin
   unfolding dropRow pays keeps droppedDeadline
   drop-owes cheap =
       let k : WaitingOk t (rowOf s i .job) (rowOf s i .left) = fate-ok (w .row i) (due .0) in
-      let l : deadlineOf s i - leftOf s i ≡ t = due .1 in
+      let l : deadlineOf s i - leftOf s i ≡ t = omega (arith, due .1) in
       let m : Same (s .rows) (mark i (dropped t) (s .rows)) r = same-mark (s .rows) i (dropped t) r in
       let same-tight : tight t (rowOf (dropRow t i s) r) ≡ tight t (rowOf s r) = cc in
       omega (arith, from-waiting (s .rows) i (dropped t) (due .0), w .row i .within)

@@ -20,11 +20,11 @@ use Rattle.promises.specs.Lawful.{Lawful}
 use Rattle.promises.proofs.Steps.{deciding}
 use Rattle.promises.proofs.Wf.{FinishedOk, RowOk, fate-ok, leastLeft, Wf, running-inside, taken-lax, running-taken}
 use Rattle.promises.proofs.Always.{decidedAt-wf}
+use Rattle.promises.proofs.Carried.{decidedAt-carries, give-given}
 use Rattle.promises.proofs.End.{Settled, timely, run-ends, end-wf, end-rows, end-settled}
 use Rattle.promises.proofs.Ended.{idle-after}
-use Rattle.promises.proofs.Ticks.{ticks-lie}
-use Rattle.promises.proofs.Carried.{decidedAt-carries, give-given}
 use Rattle.promises.proofs.Listed.{listed, end-listed}
+use Rattle.promises.proofs.Ticks.{ticks-lie}
 
 runs-row : {j : ℕ} (pr : Proc) → runningRow pr ≡ some j → pr ≡ running j
 unfolding runningRow

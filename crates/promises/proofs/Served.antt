@@ -17,8 +17,8 @@ use Rattle.promises.proofs.Stack.{rowsOf}
 use Rattle.promises.proofs.Steps.{Phase}
 use Rattle.promises.proofs.Wf.{WaitingOk, RowOk, fate-ok, ifTaken, Wf, waits-inside, taken-inside, once-running, ifTaken-small}
 use Rattle.promises.proofs.Room.{leftSum, Tight, room-tight}
-use Rattle.promises.proofs.SecondHalf.{Serves, serves-demand}
 use Rattle.promises.proofs.Carried.{Carries}
+use Rattle.promises.proofs.SecondHalf.{Serves, serves-demand}
 
 -- What a row of the list, announced or not, has not been given yet.
 abbrev pub owed : List Job → List Row → ℕ → ℕ

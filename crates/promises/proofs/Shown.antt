@@ -14,8 +14,8 @@ use Rattle.rules.specs.Result.{Outcome, outcomeNumber, outcomeTick, valueOfRows
 use Rattle.promises.specs.Lawful.{Lawful}
 use Rattle.promises.specs.Demands.{outcomeOf, inTimeOrder, named}
 use Rattle.promises.proofs.End.{Settled, end-rows}
-use Rattle.promises.proofs.StretchCount.{end-count}
 use Rattle.promises.proofs.Listed.{end-listed}
+use Rattle.promises.proofs.StretchCount.{end-count}
 
 -- By outcome 1 the result shows a finished row, and the tick of it.
 pub finished-at : (f : Fate) → outcomeNumber f ≡ 1 → f ≡ finished (outcomeTick f)

@@ -1,20 +1,70 @@
--- Each small plan earns what is told of it, its list's run has the value told, and its list the bound told: by computation alone.
--- Rests on the definitions only.
-use mathlib.Core.Path.{_≡_, refl}
-use mathlib.Core.List.{map}
+-- By computation alone: each small plan earns what is told of it, its list's run has the value told, and its list the bound told.
+-- And the demands tried where they hold with nothing to spare, so that none of them can be sharpened. Rests on the definitions only.
+use native.Mathlib.Omega.{arith}
+use mathlib.Core.Path.{_≡_, refl, sym, _∙_}
+use mathlib.Core.Logic.{inl, inr}
+use mathlib.Core.List.{map, []}
 use Rattle.rules.specs.Picks.{document}
 use Rattle.rules.specs.Run.{before, tick}
 use Rattle.rules.specs.Result.{runResult}
-use Rattle.promises.specs.Plan.{goesTo, ticks, earnsRow, earnsFrom, earns}
+use Rattle.rules.specs.SmallRuns.{r0, r2, r10}
+use Rattle.promises.specs.Plan.{goesTo, ticks, earnsRow, earnsFrom, earns, allCosts}
 use Rattle.promises.specs.RunPlan.{runningRow, runPlan}
 use Rattle.promises.specs.Bound.{droppedDeadline, reach, counts, counted, countFrom, isEarly, earlyValue, bound}
-use Rattle.promises.specs.SmallPlans.{inShares, Told, SmallPlan, smallPlans}
+use Rattle.promises.specs.Stretches.{lengthFor, ticksIn}
+use Rattle.promises.specs.Demands.{inTimeOrder, named, OfPlan, OfRow, OfRun}
+use Rattle.promises.specs.SmallPlans.{inShares, Told, SmallPlan, outdone, thrice, smallPlans}
 use Rattle.rules.proofs.Computed.{computed}
 
-abbrev shown : SmallPlan → Told
+-- To unfold this is to unfold every definition that the demands go through.
+unfoldable pub shown : SmallPlan → Told
+unfolding computed before tick goesTo ticks earnsRow earnsFrom allCosts runningRow runPlan droppedDeadline reach counts counted countFrom isEarly earlyValue bound lengthFor ticksIn inShares
 shown x =
     record { earned = earns (x .plan) (x .jobs); value = runResult document (x .jobs) .value; bound = bound document (x .jobs) }
 
 pub small-plans : map shown smallPlans ≡ map (λ (x : SmallPlan). x .told) smallPlans
-unfolding computed before tick goesTo ticks earnsRow earnsFrom runningRow runPlan droppedDeadline reach counts counted countFrom isEarly earlyValue bound inShares
+unfolding shown
 small-plans = refl
+
+-- Plans that earn the bound but not every row's cost; the second earns more than 3 × the value.
+outdone-tried : OfPlan document (outdone .jobs) (outdone .plan)
+unfolding shown
+outdone-tried = record { fourTimes = omega arith; withinBound = omega arith; boundFourTimes = omega arith; allFinished = λ e. absurd (omega arith) }
+
+thrice-tried : OfPlan document (thrice .jobs) (thrice .plan)
+unfolding shown
+thrice-tried = record { fourTimes = omega arith; withinBound = omega arith; boundFourTimes = omega arith; allFinished = λ e. absurd (omega arith) }
+
+-- With no rows a plan earns 4 × the value, namely nothing.
+none-tried : OfPlan document (r0 .jobs) (inShares [])
+unfolding shown
+none-tried = record { fourTimes = omega arith; withinBound = omega arith; boundFourTimes = omega arith; allFinished = λ e i h. absurd (omega arith) }
+
+-- A row finished just at its deadline; and a dropped one, which had a tick.
+finished-tried : OfRow document (r2 .jobs) 0
+unfolding shown
+finished-tried = record { settled = inl (omega arith); inTime = omega arith; wholeCost = λ f. omega arith; onTime = λ f. omega arith; stretches = omega arith }
+
+dropped-tried : OfRow document (r10 .jobs) 1
+unfolding shown
+dropped-tried = record { settled = inr (omega arith); inTime = omega arith; wholeCost = λ f. absurd (omega arith); onTime = λ f. absurd (omega arith); stretches = omega arith }
+
+-- A run with more stretches than rows, whose value is the tick of its end, which is the greatest deadline.
+full-tried : OfRun document (r2 .jobs)
+unfolding shown
+full-tried =
+    let spans : runResult document (r2 .jobs) .spans ≡ r2 .result .spans = refl in
+    let order : map (named (r2 .jobs)) (inTimeOrder document (r2 .jobs)) ≡ r2 .result .spans = refl in
+    record {
+      earnsValue = omega arith;
+      fewStretches = omega arith;
+      inOrder = (
+        omega arith,
+        record { apart = omega arith; longest = λ touch. omega arith },
+        (omega arith, record { apart = omega arith; longest = λ touch. omega arith }, (omega arith, tt, tt)),
+      );
+      ends = omega arith;
+      valueByEnd = omega arith;
+      outcomesNamed = refl;
+      spansNamed = spans ∙ sym order;
+    }

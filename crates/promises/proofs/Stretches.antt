@@ -21,13 +21,13 @@ use Rattle.promises.specs.RunPlan.{runningRow, decidedAt}
 use Rattle.promises.specs.Lawful.{Lawful}
 use Rattle.promises.specs.Stretches.{StretchOk, Precedes, ToFirst, InOrder, lengthFor, ticksIn}
 use Rattle.rules.proofs.Choose.{by-test, by-both}
+use Rattle.promises.proofs.RowNumbers.{same, same-self}
 use Rattle.promises.proofs.Steps.{Phase, deciding, Step}
 use Rattle.promises.proofs.Wf.{Wf}
 use Rattle.promises.proofs.WithinTick.{Timely}
 use Rattle.promises.proofs.Always.{Kept, always, always-decided}
-use Rattle.promises.proofs.End.{end-kept}
-use Rattle.promises.proofs.Ticks.{goesTo-own}
 use Rattle.promises.proofs.Carried.{step-carries, step-stretches, giveTo-given}
+use Rattle.promises.proofs.End.{end-kept}
 
 abbrev pub Follows : Stretch → Stretch → Type 0
 Follows y x = Precedes x y
@@ -103,12 +103,12 @@ module _ (t r : ℕ) (rows rows′ : List Row) (more : (j : ℕ) → given (getD
   grown-ok : (x : Stretch) (xs : List Stretch) → x .row ≡ r → x .after ≡ t → x .first ≤ t → ToFirst Follows x xs → InOrder Follows t (length rows) xs
       → ((j : ℕ) → given (getD rows j noRow) ≡ lengthFor j x + ticksIn j xs)
       → StretchesOk Follows (t + 1) rows′ (record { row = r; first = x .first; after = t + 1 } ∷ xs)
-  unfolding ticksIn lengthFor goesTo
+  unfolding ticksIn lengthFor goesTo same
   grown-ok x xs own now begun first k ticks =
       let one : t + 1 - x .first ≡ x .after - x .first + 1 = omega arith in
       record {
         order = (
-          record { notEmpty = omega arith; past = omega arith; named = given-inside rows′ r (omega (arith, more r, goesTo-own r)) },
+          record { notEmpty = omega arith; past = omega arith; named = given-inside rows′ r (omega (arith, more r, same-self r)) },
           grown-follows x _ xs own refl first,
           order-keeps t (t + 1) (length rows) rows′ xs (omega arith) (λ j. omega (arith, more j, ticks j)) k,
         );

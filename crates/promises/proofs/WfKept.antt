@@ -1,25 +1,23 @@
--- That every sub-step of A, B and C keeps Wf, and that D leads from the end of one tick to the opening of the next.
--- Rests on Wf.
+-- That every sub-step of A, B and C keeps Wf: one lemma for each thing that a sub-step may do to the state. Rests on Wf.
 use Prim.Native.Nat.{ℕ, _+_, _-_, _≤_, _<_}
 use native.Mathlib.Omega.{arith}
 use mathlib.Core.Path.{_≡_, refl, sym, ap, subst, _∙_}
 use mathlib.Core.Logic.{_≢_}
 use mathlib.Core.List.{List, [], _∷_, _++_, map}
-use lib.ListN.{length, getD, set, length-map, List·getD-eq-default}
-use lib.Seq.{getD-set-same, getD-append-seam}
+use lib.ListN.{length, getD, length-map, List·getD-eq-default}
+use lib.Seq.{getD-append-seam}
 use Rattle.rules.specs.Job.{Job, Feasible}
 use Rattle.rules.specs.State.{Fate, Row, Proc, Entry, State, noRow, rowOf, deadlineOf, leftOf, laxity, withFate, mark, waiting, taken, finished, dropped, idle, running}
 use Rattle.rules.specs.Announce.{start, preempt, append}
 use Rattle.rules.specs.Finish.{settleFinished, goIdle, resume}
 use Rattle.rules.specs.LatestStarts.{displaced, displace, takeOver, dropRow}
-use Rattle.rules.specs.Give.{oneLess, giveTo, give}
 use Rattle.promises.specs.Lawful.{Waits, Due, IsFirst}
-use Rattle.promises.proofs.Rows.{all-set, set-keeps, Same, same-mark, all-append, same-append, same-beside, getD-displaced, same-displaced}
+use Rattle.promises.proofs.Rows.{all-set, Same, same-mark, all-append, same-append, getD-displaced, same-displaced}
 use Rattle.promises.proofs.Sums.{sumBy}
 use Rattle.promises.proofs.RowNumbers.{same-self, same-other, occurs}
 use Rattle.promises.proofs.Stack.{rowsOf, stackOf, heldBy, Under, Below, below-keeps, held-keeps, below-fits}
-use Rattle.promises.proofs.Steps.{Phase, opening, offering, announcing, deciding, Step, rests, runsOn, idles, startsFirst, resumes, resumesOffering, starts, preempts, waitsOn, appears, decides, takesOver, isDropped, NothingDue}
-use Rattle.promises.proofs.Wf.{WaitingOk, FateOk, RowOk, fate-ok, ifTaken, OfferWaits, leastLeft, Busy, ProcOk, Wf, resting, busy, waits-inside, waits-not-taken, once-running, leastLeft-small, running-inside, running-not-delayed, delayed-inside, taken-lax, running-taken, idle-not-taken}
+use Rattle.promises.proofs.Steps.{Phase, opening, offering, announcing, deciding, Step, rests, runsOn, idles, startsFirst, resumes, resumesOffering, starts, preempts, waitsOn, appears, decides, takesOver, isDropped}
+use Rattle.promises.proofs.Wf.{WaitingOk, FateOk, RowOk, fate-ok, ifTaken, OfferWaits, leastLeft, Busy, ProcOk, Wf, resting, busy, waits-inside, waits-not-taken, once-running, leastLeft-small, running-inside, running-not-delayed, delayed-inside, taken-lax, idle-not-taken}
 
 -- The rows after row i has met a fate that suits it.
 mark-ok : (t : ℕ) (rows : List Row) (i : ℕ) (f : Fate) → ((j : ℕ) → RowOk t (getD rows j noRow)) → i < length rows
@@ -248,7 +246,7 @@ module _ {t r : ℕ} {s : State} (w : Wf deciding t s) (e : s .proc ≡ running 
       let rows : List Row = map displace (s .rows) in
       let h : i < length rows = rw length-map (waits-inside (s .rows) i (due .0)) in
       let k : WaitingOk t (rowOf s i .job) (rowOf s i .left) = fate-ok (w .row i) (due .0) in
-      let l : deadlineOf s i - leftOf s i ≡ t = due .1 in
+      let l : deadlineOf s i - leftOf s i ≡ t = omega (arith, due .1) in
       let m : Same (s .rows) rows i = same-displaced (s .rows) i in
       let n : Same rows (mark i taken rows) i = same-mark rows i taken i in
       record {
@@ -267,7 +265,7 @@ module _ {t r : ℕ} {s : State} (w : Wf deciding t s) (e : s .proc ≡ running 
   unfolding dropRow ifTaken
   drop-wf i due =
       let k : WaitingOk t (rowOf s i .job) (rowOf s i .left) = fate-ok (w .row i) (due .0) in
-      let l : deadlineOf s i - leftOf s i ≡ t = due .1 in
+      let l : deadlineOf s i - leftOf s i ≡ t = omega (arith, due .1) in
       let same-rows : (j : ℕ) → Same (s .rows) (mark i (dropped t) (s .rows)) j = same-mark (s .rows) i (dropped t) in
       let m : Same (s .rows) (mark i (dropped t) (s .rows)) r = same-rows r in
       let b : Busy deciding t s r = busy w e in
@@ -287,68 +285,6 @@ module _ {t r : ℕ} {s : State} (w : Wf deciding t s) (e : s .proc ≡ running 
             (λ j _. refl);
         held = w .held ∙ sym (held-keeps (s .rows) (mark i (dropped t) (s .rows)) (s .delayed) (λ j _. same-rows j));
       }
-
--- D: nothing that waits was due, so everything can still start at the next tick.
-later-fate : (t : ℕ) (f : Fate) (j : Job) (left : ℕ) → (f ≡ waiting → j .deadline - left ≡ t → ⊥) → FateOk t f j left → FateOk (t + 1) f j left
-later-fate t waiting j left n k = let m : j .deadline - left ≢ t = n refl in record { unfinished = k .unfinished; startable = omega arith }
-later-fate t taken j left n k = tt
-later-fate t (finished u) j left n k = omega arith
-later-fate t (dropped u) j left n k = omega arith
-
-module _ {t : ℕ} {s : State} (w : Wf deciding t s) (noneDue : NothingDue t (s .rows)) where
-  later-row : (j : ℕ) → RowOk (t + 1) (rowOf s j)
-  later-row j =
-      let k : RowOk t (rowOf s j) = w .row j in
-      record {
-        within = k .within;
-        window = k .window;
-        since = omega arith;
-        fate = later-fate t (rowOf s j .fate) (rowOf s j .job) (rowOf s j .left) (λ f l. noneDue j (f, l)) (k .fate);
-      }
-
-  giveTo-wf : (p : Proc) → s .proc ≡ p → Wf opening (t + 1) (giveTo p t s)
-  unfolding giveTo oneLess leastLeft
-  giveTo-wf idle e =
-      record {
-        proc = subst (ProcOk opening (t + 1) s) (sym e) (record { nothingDelayed = resting w e .nothingDelayed; nothingWaits = resting w e .nothingWaits });
-        offer = tt;
-        row = later-row;
-        once = w .once;
-        held = w .held;
-      }
-  giveTo-wf (running r) e =
-      let h : r < length (s .rows) = running-inside w e in
-      let k : RowOk (t + 1) (rowOf s r) = later-row r in
-      let b : Busy deciding t s r = busy w e in
-      let u : 1 ≤ leftOf s r = b .unfinished in
-      let x : Row = oneLess (rowOf s r) in
-      let at : getD (set (s .rows) r x) r noRow ≡ x = getD-set-same (s .rows) r x noRow h in
-      let left : getD (set (s .rows) r x) r noRow .left ≡ leftOf s r - 1 = ap (λ (y : Row). y .left) at in
-      let same-rows : (j : ℕ) → 1 ≤ occurs j (rowsOf (s .delayed)) → Same (s .rows) (set (s .rows) r x) j =
-      λ j o. same-beside (s .rows) r x j (λ q. let z : occurs j (rowsOf (s .delayed)) ≡ 0 = rw q (running-not-delayed w e) in omega arith) in
-      record {
-        proc =
-            subst (ProcOk opening (t + 1) (giveTo (running r) t s)) (sym e)
-            (record {
-              unfinished = omega arith;
-              below =
-                  below-keeps (s .rows) (set (s .rows) r x) t (t + 1) _ _ _ _ (s .delayed) (omega arith)
-                  (sym (ap (λ (y : Row). y .job .deadline) at))
-                  (omega arith)
-                  same-rows
-                  (b .below);
-            });
-        offer = tt;
-        row =
-            all-set (λ (j : ℕ) (y : Row). RowOk (t + 1) y) (s .rows) r x h
-            (record { within = omega arith; window = k .window; since = omega (arith, w .row r .since); fate = subst (λ (f : Fate). FateOk (t + 1) f (rowOf s r .job) (rowOf s r .left - 1)) (sym (running-taken w e)) tt })
-            (λ j n. later-row j);
-        once = λ j. w .once j ∙ sym (ap ifTaken (set-keeps (λ (y : Row). y .fate) (s .rows) r x refl j));
-        held = w .held ∙ sym (held-keeps (s .rows) (set (s .rows) r x) (s .delayed) same-rows);
-      }
-
-pub give-wf : {t : ℕ} {s : State} → Wf deciding t s → NothingDue t (s .rows) → Wf opening (t + 1) (give t s)
-give-wf {s = s} w noneDue = giveTo-wf w noneDue (s .proc) refl
 
 -- The state stays, and the phase moves on.
 same-state : {ph : Phase} {t : ℕ} {s : State} (ph′ : Phase) → OfferWaits ph′ (s .rows) → Wf ph t s → ProcOk ph′ t s (s .proc) → Wf ph′ t s

@@ -35,35 +35,49 @@ inTimeOrder p jobs = reverse (run p jobs .state .stretches)
 abbrev pub named : List Job → Stretch → Span
 named jobs x = record { name = jobOf jobs (x .row) .name; first = x .first; after = x .after }
 
-pub record Promised (p : Picks) (jobs : List Job) : Type 0 where
-  -- Demand 3, first half: what any plan earns is at most 4 × the value of the run.
-  pub fourTimes : (q : Plan) → earns q jobs ≤ 4 * runResult p jobs .value
-  -- The bound of this list: what any plan earns is at most a number that the run itself shows, and this is at most 4 × its value.
-  pub withinBound : (q : Plan) → earns q jobs ≤ bound p jobs
+-- Of any plan q.
+pub record OfPlan (p : Picks) (jobs : List Job) (q : Plan) : Type 0 where
+  -- Demand 3, first half: it earns at most 4 × the value of the run.
+  pub fourTimes : earns q jobs ≤ 4 * runResult p jobs .value
+  -- It earns at most the bound of this list, a number that the run itself shows; and that is at most 4 × the value of the run.
+  pub withinBound : earns q jobs ≤ bound p jobs
   pub boundFourTimes : bound p jobs ≤ 4 * runResult p jobs .value
-  -- Demand 3, second half: if some plan earns every row's cost, the run finishes every row.
-  pub allFinished : (q : Plan) → earns q jobs ≡ allCosts jobs → (i : ℕ) → i < length jobs → Finishes p jobs i
-  -- On time: the run gives a row no tick but from its release to before its deadline; the result's ticks given are all of these;
-  pub inTime : (t i : ℕ) → runPlan p jobs t ≡ some i → (jobOf jobs i .release ≤ t) × (t < jobOf jobs i .deadline)
-  pub ticksGiven : (i : ℕ) → i < length jobs → outcomeOf p jobs i .given ≡ ticksInTime (runPlan p jobs) i (jobOf jobs i)
-  -- a row that it finishes got exactly its cost, and is finished at or before its deadline.
-  pub wholeCost : (i : ℕ) → i < length jobs → Finishes p jobs i → outcomeOf p jobs i .given ≡ jobOf jobs i .cost
-  pub onTime : (i : ℕ) → i < length jobs → Finishes p jobs i → outcomeOf p jobs i .tick ≤ jobOf jobs i .deadline
-  -- So the run is itself a plan, and what it earns is its value.
+  -- Demand 3, second half: if it earns every row's cost, the run finishes every row.
+  pub allFinished : earns q jobs ≡ allCosts jobs → (i : ℕ) → i < length jobs → Finishes p jobs i
+
+-- Of each row i.
+pub record OfRow (p : Picks) (jobs : List Job) (i : ℕ) : Type 0 where
+  -- At the end it is settled: finished or dropped.
+  pub settled : Finishes p jobs i ⊎ Drops p jobs i
+  -- On time: its ticks given are all from its release to before its deadline;
+  pub inTime : outcomeOf p jobs i .given ≡ ticksInTime (runPlan p jobs) i (jobOf jobs i)
+  -- if it is finished, they are exactly its cost, and it is finished at or before its deadline.
+  pub wholeCost : Finishes p jobs i → outcomeOf p jobs i .given ≡ jobOf jobs i .cost
+  pub onTime : Finishes p jobs i → outcomeOf p jobs i .tick ≤ jobOf jobs i .deadline
+  -- They are the sum of its stretches.
+  pub stretches : outcomeOf p jobs i .given ≡ ticksIn i (inTimeOrder p jobs)
+
+-- Of the run.
+pub record OfRun (p : Picks) (jobs : List Job) : Type 0 where
+  -- It is itself a plan, and what it earns is its value.
   pub earnsValue : earns (runPlan p jobs) jobs ≡ runResult p jobs .value
-  -- Stretches: never more in all than three times the rows.
+  -- Stretches: there are never more in all than three times the rows.
   pub fewStretches : length (runResult p jobs .spans) ≤ 3 * length jobs
   -- They ascend; none is empty, overlaps another or ends after the run; each is of a row, and those that touch are of different rows.
   pub inOrder : InOrder Precedes (run p jobs .tick) (length jobs) (inTimeOrder p jobs)
-  -- Each row's ticks given are the sum of its stretches, and the result shows just these stretches, with names.
-  pub sumOfStretches : (i : ℕ) → i < length jobs → outcomeOf p jobs i .given ≡ ticksIn i (inTimeOrder p jobs)
-  pub spansNamed : runResult p jobs .spans ≡ map (named jobs) (inTimeOrder p jobs)
-  -- The end: the run ends at or before the greatest deadline; its value is at most the tick of its end;
+  -- The end: it is at or before the greatest deadline, and the value is at most its tick.
   pub ends : run p jobs .tick ≤ greatestDeadline jobs
   pub valueByEnd : runResult p jobs .value ≤ run p jobs .tick
-  -- and every row is settled there, finished or dropped: the result shows the rows of the list, in its order.
-  pub settled : (i : ℕ) → i < length jobs → Finishes p jobs i ⊎ Drops p jobs i
+  -- The result shows the rows of the list in its order, and these stretches, all with the list's names.
   pub outcomesNamed : map (λ (o : Outcome). o .name) (runResult p jobs .outcomes) ≡ map (λ (j : Job). j .name) jobs
+  pub spansNamed : runResult p jobs .spans ≡ map (named jobs) (inTimeOrder p jobs)
+
+-- All that is promised of a list; and that the run gives no row a tick but from its release to before its deadline.
+pub record Promised (p : Picks) (jobs : List Job) : Type 0 where
+  pub plan : (q : Plan) → OfPlan p jobs q
+  pub row : (i : ℕ) → i < length jobs → OfRow p jobs i
+  pub run : OfRun p jobs
+  pub noneOutside : (t i : ℕ) → runPlan p jobs t ≡ some i → (jobOf jobs i .release ≤ t) × (t < jobOf jobs i .deadline)
 
 -- Four is needed: with document 01's own picks, some plan for some proper list earns more than 3.9 × the value of the run.
 abbrev pub FourIsNeeded : Type 0

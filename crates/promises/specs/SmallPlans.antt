@@ -8,7 +8,7 @@ use lib.Dec.{ltb}
 use Rattle.rules.specs.Choose.{choose}
 use Rattle.rules.specs.Job.{Job}
 use Rattle.rules.specs.Picks.{document}
-use Rattle.rules.specs.SmallRuns.{job, r1, r3, r4, r7, r10}
+use Rattle.rules.specs.SmallRuns.{job, r1, r3, r7, r10}
 use Rattle.promises.specs.Plan.{Plan}
 use Rattle.promises.specs.RunPlan.{runPlan}
 
@@ -45,11 +45,11 @@ smallPlan js q e v b = record { jobs = js; plan = q; told = record { earned = e;
 abbrev pub tooSoon : SmallPlan
 tooSoon = smallPlan (r1 .jobs) (inShares (upTo 2 1 ∷ upTo 6 0 ∷ [])) 4 6 12
 
--- Nor does one from the deadline on: job 1 of R4 gets ticks 5 and 6, and its deadline is 4.
+-- Nor does one from the deadline on: here it gets ticks 4 and 5, and its deadline is 5.
 abbrev pub tooLate : SmallPlan
-tooLate = smallPlan (r4 .jobs) (inShares (upTo 5 1 ∷ upTo 7 0 ∷ [])) 5 5 6
+tooLate = smallPlan (r1 .jobs) (inShares (upTo 4 0 ∷ upTo 6 1 ∷ [])) 4 6 12
 
--- The last tick before the deadline does: both jobs of R7. No plan of this list could earn more: it earns its bound.
+-- The last tick before the deadline does: both jobs of R7. This plan earns its list's bound, so no plan earns more.
 abbrev pub lastTick : SmallPlan
 lastTick = smallPlan (r7 .jobs) (inShares (upTo 3 0 ∷ upTo 5 1 ∷ [])) 5 5 5
 
@@ -61,11 +61,16 @@ tooMany = smallPlan (r3 .jobs) (inShares (upTo 9 1 ∷ [])) 7 4 13
 abbrev pub itself : SmallPlan
 itself = smallPlan (r10 .jobs) (runPlan document (r10 .jobs)) 17 17 22
 
--- A plan that earns its bound, twice what the run earns: the run finishes job 1 at its deadline and job 3 early, and drops the others.
--- Without the early job's cost, or the ticks below the reach that nobody is given, the bound would be too low.
+-- A plan that earns its list's bound: the run finishes job 1 at its deadline and job 3 early, and drops the others. Without the cost
+-- of the early job, or without the ticks below the reach that nobody is given, the bound would be too low.
 abbrev pub outdone : SmallPlan
 outdone =
     smallPlan (job 1 0 3 3 ∷ job 2 0 2 2 ∷ job 3 0 2 20 ∷ job 4 2 6 8 ∷ []) (inShares (upTo 2 1 ∷ upTo 8 3 ∷ upTo 10 2 ∷ [])) 10 5 10
 
+-- A plan that earns more than 3 × the value of the run, and its list's bound: job 3 takes over from job 1, and only it is finished.
+abbrev pub thrice : SmallPlan
+thrice =
+    smallPlan (job 1 0 3 3 ∷ job 2 0 2 2 ∷ job 3 2 7 9 ∷ job 4 2 6 8 ∷ job 5 8 14 22 ∷ []) (inShares (upTo 2 1 ∷ upTo 8 3 ∷ upTo 22 4 ∷ [])) 22 7 22
+
 abbrev pub smallPlans : List SmallPlan
-smallPlans = tooSoon ∷ tooLate ∷ lastTick ∷ tooMany ∷ itself ∷ outdone ∷ []
+smallPlans = tooSoon ∷ tooLate ∷ lastTick ∷ tooMany ∷ itself ∷ outdone ∷ thrice ∷ []
