@@ -1,5 +1,5 @@
 -- The numbers that the ledger weighs, each read off the rows: what finished rows pay for the counted ticks, what remains of the
--- stack, and the reach; and how they change with one row, an announcement and a takeover. Rests on Reach and Sums.
+-- stack, and the reach; and how they change with one row, an announcement and a takeover. Rests on Reach, Sums and Wf.
 use Prim.Native.Nat.{ℕ, _+_, _*_, _≤_, _<_, max}
 use native.Mathlib.Omega.{arith}
 use mathlib.Core.Path.{_≡_, refl, sym, ap, _∙_}

@@ -1,5 +1,5 @@
--- What becomes of the rows within a tick: A, B and C change no announced row's job and give no tick; D gives one to the running
--- row. So what a row was given is counted by D alone. Rests on WithinTick and Always.
+-- What becomes of rows and stretches within a tick: A, B and C change no announced row's job, give no tick and leave the stretches;
+-- D gives one tick to the running row. So what a row was given is counted by D alone. Rests on WithinTick and Always.
 use Prim.Native.Nat.{ℕ, _+_, _≤_, _<_}
 use native.Mathlib.Nat.{le-refl, le-trans}
 use native.Mathlib.Omega.{arith}

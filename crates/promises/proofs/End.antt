@@ -1,5 +1,5 @@
--- Fact 9: the run of a proper list ends, at or before its greatest deadline, at the first tick where it may; there every row
--- is announced and settled, and the state is the one that the tick rules decide. Rests on Always and Announced.
+-- The run of a proper list ends, at or before its greatest deadline, at the first tick where it may; there every row is announced
+-- and settled, and the state is the one that the tick rules decide. Rests on Always and Announced.
 use Prim.Native.Nat.{ℕ, zero, suc, _+_, _≤_, _<_}
 use native.Mathlib.Numerals.{add-one}
 use native.Mathlib.Omega.{arith}

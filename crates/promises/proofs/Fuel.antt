@@ -1,5 +1,5 @@
--- Fact 8: step C ends. Each decision lowers a count of at most two for each row, so twice the rows are decisions enough, and
--- after C nothing is due. Rests on WithinTick and Sums.
+-- Step C ends. Each decision lowers a count of at most two for each row, so twice the rows are decisions enough, and after C
+-- nothing is due. Rests on WithinTick and Sums.
 use Prim.Native.Nat.{ℕ, zero, suc, _+_, _*_, _≤_, _<_}
 use native.Mathlib.Omega.{arith}
 use mathlib.Core.Path.{_≡_, refl, sym, ap, subst, _∙_}

@@ -1,5 +1,5 @@
 -- The ledger of demand 3's first half: at every point of every run the counted ticks so far, and those that the reach will still
--- count, are covered by what finished rows paid and by the stack's costs. One lemma for each kind of sub-step. Rests on Books.
+-- count, are covered by what finished rows paid and by the stack's costs. One lemma for each kind of sub-step. Rests on Books and Always.
 use Prim.Native.Nat.{ℕ, _+_, _-_, _*_, _≤_, _<_}
 use native.Mathlib.Nat.{add-zero}
 use native.Mathlib.Numerals.{add-one}

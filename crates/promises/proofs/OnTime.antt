@@ -1,5 +1,5 @@
 -- The run as a plan: it gives each row, between its release and its deadline and before the end, just the ticks that the row's
--- state counts. So every finished row is finished on time, and the plan earns the run's value. Rests on Carried and Ended.
+-- state counts. So every finished row is finished on time, and the plan earns the run's value. Rests on Carried, Ended and Listed.
 use Prim.Native.Nat.{ℕ, zero, suc, _+_, _-_, _≤_, _<_, zero-le}
 use native.Mathlib.Nat.{le-antisymm, zero-add, add-zero, add-suc, suc-add}
 use native.Mathlib.Omega.{arith}

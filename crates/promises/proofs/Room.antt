@@ -1,5 +1,5 @@
--- Fact 5 as it is used: room is tight. If the stack ran on after as many ticks as there is room, some job down the stack would
--- be through just at its deadline. (That each is through by its deadline, `Below` says.) Rests on Wf.
+-- Room is no less than it could be: if the stack ran on after as many ticks as there is room, some job down the stack would be
+-- through just at its deadline. (That each would be through by its deadline, `Below` says.) Rests on Wf.
 use Prim.Native.Nat.{ℕ, _+_, _≤_, _<_}
 use native.Mathlib.Omega.{arith}
 use native.Mathlib.Decide.{decLe}

@@ -1,5 +1,5 @@
 -- Lists of row numbers: how often a row stands in one, sums over one, and the numbers of a whole list, each once. The stack is
--- such a list, and so are the rows over which a plan's ticks are counted. Rests on Sums.
+-- such a list, and so are the rows over which a plan's ticks are counted. Rests on Rows and Sums.
 use Prim.Native.Nat.{ℕ, suc, _+_, _≤_, zero-le}
 use native.Mathlib.Omega.{arith}
 use mathlib.Core.Path.{_≡_, refl}

@@ -1,6 +1,6 @@
--- Fact 10: never more stretches in all than three times the rows. A row may cause one by being announced, one by taking over and
--- one by finishing. No takeover need be counted by itself (fact 7): a runner without laxity stands for its own, no offer preempts
--- it, and a takeover leaves it due, so that some row is dropped before the tick is given. Rests on End and Sums.
+-- Never more stretches in all than three times the rows. A row may cause one by being announced, one by taking over and one by
+-- finishing. No takeover need be counted by itself: a runner without laxity stands for its own, no offer preempts it, and a
+-- takeover leaves it due, so that some row is dropped before the tick is given. Rests on End, Listed and Sums.
 use Prim.Native.Nat.{ℕ, suc, _+_, _-_, _*_, _≤_, _<_}
 use native.Mathlib.Omega.{arith}
 use native.Mathlib.Decide.{decLe}

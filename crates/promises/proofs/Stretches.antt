@@ -1,5 +1,5 @@
 -- The stretches of a run: none is empty, they ascend and do not overlap, those that touch are of different rows, all end by the
--- present tick and name announced rows, and each row's ticks given are the sum of its stretches' lengths. Rests on End.
+-- present tick and name announced rows, and each row's ticks given are the sum of its stretches' lengths. Rests on End and Carried.
 use Prim.Native.Nat.{ℕ, _+_, _-_, _≤_, _<_}
 use native.Mathlib.Omega.{arith}
 use native.Mathlib.Decide.{decLt}

@@ -1,5 +1,5 @@
 -- Laws of the ticks that a plan gives to a row: the first tick of a window, one window inside another, and two ticks exchanged.
--- Both halves of demand 3 count with them. Rests on Plan.
+-- Both halves of demand 3 count with them. Rests on Plan and RowNumbers.
 use Prim.Native.Nat.{ℕ, zero, suc, _+_, _-_, _≤_, _<_, zero-le}
 use mathlib.Core.Option.{Option, none, some}
 use mathlib.Core.Path.{_≡_, refl, sym, ap, _∙_}

@@ -1,5 +1,5 @@
--- Fact 11: a run's value is at most the tick of its end. Finished costs are ticks given, and each tick is given once. With End, the
--- value is at most the greatest deadline, which the packed answer needs. Rests on OnTime and Counting.
+-- A run's value is at most the tick of its end: finished costs are ticks given, and each tick is given once. With End, it is at most
+-- the greatest deadline, which the packed answer needs. Rests on OnTime and Counting.
 use Prim.Native.Nat.{ℕ, suc, _+_, _≤_, zero-le}
 use native.Mathlib.Nat.{le-of-eq, zero-add, add-zero, add-suc, suc-add}
 use native.Mathlib.Omega.{arith}

@@ -1,5 +1,5 @@
--- What holds at every point of every run (facts 1 to 6 of the argument), as one record that later modules read: of each
--- row, of the stack, of held value and of room. That every sub-step keeps it is proved in WfKept. Rests on Stack and Steps.
+-- What holds at every point of every run, as one record that later modules read: of each row, of the stack, of held value and of
+-- room. That A, B and C keep it is proved in WfKept, and that D does in WfGiven. Rests on Stack and Steps.
 use Prim.Native.Nat.{ℕ, _+_, _≤_, _<_}
 use native.Mathlib.Omega.{arith}
 use mathlib.Core.Path.{_≡_, refl, sym, ap, subst, _∙_}

@@ -1,16 +1,14 @@
 -- Small plans: a list, a plan for it, what the plan earns, the value of the list's run with document 01's picks, and the list's
 -- bound. Each tells the terms of the demands from some wrong reading. That the numbers come out so is proved in proofs/SmallPlans.
--- Rests on Plan, RunPlan and the rules' small runs.
+-- Rests on Plan and the rules' small runs.
 use Prim.Native.Nat.{ℕ}
 use mathlib.Core.List.{List, [], _∷_}
 use mathlib.Core.Option.{none, some}
 use lib.Dec.{ltb}
 use Rattle.rules.specs.Choose.{choose}
 use Rattle.rules.specs.Job.{Job}
-use Rattle.rules.specs.Picks.{document}
-use Rattle.rules.specs.SmallRuns.{job, r1, r3, r7, r10}
+use Rattle.rules.specs.SmallRuns.{job, r1, r3, r7}
 use Rattle.promises.specs.Plan.{Plan}
-use Rattle.promises.specs.RunPlan.{runPlan}
 
 -- Ticks not yet planned, up to before this tick, go to this row.
 pub record Share : Type 0 where
@@ -27,19 +25,15 @@ inShares (x ∷ xs) s =
     let on = inShares xs s in
     choose (ltb s (x .before)) (some (x .row)) on
 
--- What is told of a list and a plan.
-pub record Told : Type 0 where
+pub record SmallPlan : Type 0 where
+  pub jobs : List Job
+  pub plan : Plan
   pub earned : ℕ
   pub value : ℕ
   pub bound : ℕ
 
-pub record SmallPlan : Type 0 where
-  pub jobs : List Job
-  pub plan : Plan
-  pub told : Told
-
 abbrev pub smallPlan : List Job → Plan → ℕ → ℕ → ℕ → SmallPlan
-smallPlan js q e v b = record { jobs = js; plan = q; told = record { earned = e; value = v; bound = b } }
+smallPlan js q e v b = record { jobs = js; plan = q; earned = e; value = v; bound = b }
 
 -- A tick before the release does not count: job 2 of R1 gets ticks 0 and 1, and is released at 1.
 abbrev pub tooSoon : SmallPlan
@@ -57,10 +51,6 @@ lastTick = smallPlan (r7 .jobs) (inShares (upTo 3 0 ∷ upTo 5 1 ∷ [])) 5 5 5
 abbrev pub tooMany : SmallPlan
 tooMany = smallPlan (r3 .jobs) (inShares (upTo 9 1 ∷ [])) 7 4 13
 
--- The run is itself a plan and earns its value: R10.
-abbrev pub itself : SmallPlan
-itself = smallPlan (r10 .jobs) (runPlan document (r10 .jobs)) 17 17 22
-
 -- A plan that earns its list's bound: the run finishes job 1 at its deadline and job 3 early, and drops the others. Without the cost
 -- of the early job, or without the ticks below the reach that nobody is given, the bound would be too low.
 abbrev pub outdone : SmallPlan
@@ -73,4 +63,4 @@ thrice =
     smallPlan (job 1 0 3 3 ∷ job 2 0 2 2 ∷ job 3 2 7 9 ∷ job 4 2 6 8 ∷ job 5 8 14 22 ∷ []) (inShares (upTo 2 1 ∷ upTo 8 3 ∷ upTo 22 4 ∷ [])) 22 7 22
 
 abbrev pub smallPlans : List SmallPlan
-smallPlans = tooSoon ∷ tooLate ∷ lastTick ∷ tooMany ∷ itself ∷ outdone ∷ thrice ∷ []
+smallPlans = tooSoon ∷ tooLate ∷ lastTick ∷ tooMany ∷ outdone ∷ thrice ∷ []
