@@ -19,7 +19,6 @@ use Rattle.rules.specs.Finish.{settleFinished, goIdle, resume}
 use Rattle.rules.specs.LatestStarts.{displaced, displace, takeOver, dropRow}
 use Rattle.rules.specs.Give.{stretch, oneLess, giveTo}
 use Rattle.rules.specs.Run.{before, run}
-use Rattle.promises.specs.RunPlan.{decidedAt}
 use Rattle.promises.specs.Lawful.{Waits, Due, IsFirst, Lawful}
 use Rattle.rules.proofs.Choose.{by-test}
 use Rattle.promises.proofs.Rows.{Same, same-mark, same-append, getD-displaced, same-displaced}
@@ -28,7 +27,7 @@ use Rattle.promises.proofs.Stack.{below-fits}
 use Rattle.promises.proofs.Steps.{Phase, opening, offering, announcing, deciding, Step, rests, runsOn, idles, startsFirst, resumes, resumesOffering, starts, preempts, waitsOn, appears, decides, takesOver, isDropped, NothingDue}
 use Rattle.promises.proofs.Wf.{WaitingOk, fate-ok, leastLeft, Wf, busy, waits-inside, running-inside, taken-lax, running-taken}
 use Rattle.promises.proofs.WithinTick.{Timely}
-use Rattle.promises.proofs.Always.{Kept, before-wf, decidedAt-wf, always, always-decided}
+use Rattle.promises.proofs.Always.{Kept, before-wf, always}
 use Rattle.promises.proofs.End.{end-wf, end-kept}
 use Rattle.promises.proofs.Listed.{end-length}
 
@@ -303,14 +302,12 @@ counted-bound : {ph : Phase} {t : ℕ} {s : State} → Wf ph t s → Counted ph 
 counted-bound {ph} {t} {s} w q = omega (arith, counted-within ph t s q, allowed-bound w (s .proc) refl)
 
 module _ {p : Picks} (l : Lawful p) where
-  module _ (released : ℕ → List Job) (timely : (t : ℕ) → Timely t (released t)) (n : ℕ) where
-    pub count-before : length (before p released n .stretches) ≤ 3 * length (before p released n .rows)
-    count-before = counted-bound (before-wf l released timely n) (always l released timely Counted counted-kept n)
+  -- There are never more stretches in all than three times the rows: before every tick, so that a fixed array holds them,
+  pub count-before : (released : ℕ → List Job) → ((t : ℕ) → Timely t (released t)) → (n : ℕ)
+      → length (before p released n .stretches) ≤ 3 * length (before p released n .rows)
+  count-before released timely n = counted-bound (before-wf l released timely n) (always l released timely Counted counted-kept n)
 
-    pub count-decided : length (decidedAt p released n .stretches) ≤ 3 * length (decidedAt p released n .rows)
-    count-decided = counted-bound (decidedAt-wf l released timely n) (always-decided l released timely Counted counted-kept n)
-
-  -- There are never more stretches in all than three times the rows.
+  -- and at the end of a list's run.
   pub end-count : (jobs : List Job) → Proper jobs → length (run p jobs .state .stretches) ≤ 3 * length jobs
   end-count jobs proper =
       omega (

@@ -17,7 +17,7 @@ use Rattle.rules.specs.Picks.{Picks}
 use Rattle.rules.specs.Give.{stretch, giveTo}
 use Rattle.rules.specs.Run.{before, run}
 use Rattle.promises.specs.Plan.{goesTo}
-use Rattle.promises.specs.RunPlan.{runningRow, decidedAt}
+use Rattle.promises.specs.RunPlan.{runningRow}
 use Rattle.promises.specs.Lawful.{Lawful}
 use Rattle.promises.specs.Stretches.{StretchOk, Precedes, ToFirst, InOrder, lengthFor, ticksIn}
 use Rattle.rules.proofs.Choose.{by-test, by-both}
@@ -25,7 +25,7 @@ use Rattle.promises.proofs.RowNumbers.{same, same-self}
 use Rattle.promises.proofs.Steps.{Phase, deciding, Step}
 use Rattle.promises.proofs.Wf.{Wf}
 use Rattle.promises.proofs.WithinTick.{Timely}
-use Rattle.promises.proofs.Always.{Kept, always, always-decided}
+use Rattle.promises.proofs.Always.{Kept, always}
 use Rattle.promises.proofs.Carried.{step-carries, step-stretches, giveTo-given}
 use Rattle.promises.proofs.End.{end-kept}
 
@@ -162,13 +162,11 @@ in-time-order {t} {rows} {xs} k =
     record { order = order-reversed t (length rows) xs (k .order); ticks = λ j. omega (arith, k .ticks j, ticks-onto j xs []) }
 
 module _ {p : Picks} (l : Lawful p) where
-  module _ (released : ℕ → List Job) (timely : (t : ℕ) → Timely t (released t)) (n : ℕ) where
-    pub stretches-before : StretchesOk Follows n (before p released n .rows) (before p released n .stretches)
-    stretches-before = always l released timely Stretched stretched-kept n
+  -- The stretches before every tick, newest first,
+  pub stretches-before : (released : ℕ → List Job) → ((t : ℕ) → Timely t (released t)) → (n : ℕ)
+      → StretchesOk Follows n (before p released n .rows) (before p released n .stretches)
+  stretches-before released timely n = always l released timely Stretched stretched-kept n
 
-    pub stretches-decided : StretchesOk Follows n (decidedAt p released n .rows) (decidedAt p released n .stretches)
-    stretches-decided = always-decided l released timely Stretched stretched-kept n
-
-  -- The stretches of a list's result.
+  -- and those of a list's result, in time order.
   pub end-stretches : (jobs : List Job) → Proper jobs → StretchesOk Precedes (run p jobs .tick) (run p jobs .state .rows) (reverse (run p jobs .state .stretches))
   end-stretches jobs proper = in-time-order (end-kept l jobs proper Stretched stretched-kept)

@@ -1,6 +1,6 @@
--- All that is promised of the run of a list, in document 01's words; proofs/Main proves it of every proper list. Two terms are new.
--- A plan gives each tick to at most one row, and may know every job beforehand. It earns the cost of each row to which it gives at
--- least as many ticks from the row's release to before its deadline (Plan). Rests on the rules' Result, and on the terms beside.
+-- All that is promised of the run of a list, in document 01's words; proofs/Main proves it of every list whose rows pass tests 8, 10
+-- and 11 (`Proper`). A plan gives each tick to at most one row, and may know all rows beforehand; it earns the cost of each row that
+-- gets at least as many ticks of it from its release to before its deadline (Plan). Rests on the rules' Result and the terms beside.
 use Prim.Native.Nat.{ℕ, _*_, _≤_, _<_}
 use mathlib.Core.Path.{_≡_}
 use mathlib.Core.Logic.{_⊎_}
@@ -49,7 +49,7 @@ pub record OfPlan (p : Picks) (jobs : List Job) (q : Plan) : Type 0 where
 pub record OfRow (p : Picks) (jobs : List Job) (i : ℕ) : Type 0 where
   -- At the end it is settled: finished or dropped.
   pub settled : Finishes p jobs i ⊎ Drops p jobs i
-  -- On time: its ticks given are all from its release to before its deadline;
+  -- On time: its ticks given are those that the run gives it from its release to before its deadline;
   pub inTime : outcomeOf p jobs i .given ≡ ticksInTime (runPlan p jobs) i (jobOf jobs i)
   -- if it is finished, they are exactly its cost, and it is finished at or before its deadline.
   pub wholeCost : Finishes p jobs i → outcomeOf p jobs i .given ≡ jobOf jobs i .cost
@@ -72,7 +72,7 @@ pub record OfRun (p : Picks) (jobs : List Job) : Type 0 where
   pub outcomesNamed : map (λ (o : Outcome). o .name) (runResult p jobs .outcomes) ≡ map (λ (j : Job). j .name) jobs
   pub spansNamed : runResult p jobs .spans ≡ map (named jobs) (inTimeOrder p jobs)
 
--- All that is promised of a list; and that the run gives no row a tick but from its release to before its deadline.
+-- All that is promised of a list, with p for the picks. The run gives no row a tick but from its release to before its deadline.
 pub record Promised (p : Picks) (jobs : List Job) : Type 0 where
   pub plan : (q : Plan) → OfPlan p jobs q
   pub row : (i : ℕ) → i < length jobs → OfRow p jobs i
