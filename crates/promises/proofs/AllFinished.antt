@@ -4,47 +4,38 @@ use Prim.Native.Nat.{ℕ, zero, suc, _≤_, _<_}
 use native.Mathlib.Decide.{decLe}
 use native.Mathlib.Omega.{arith}
 use mathlib.Core.Path.{_≡_, refl, sym, ap, subst, _∙_}
-use mathlib.Core.List.{List, [], _∷_}
+use mathlib.Core.List.{List, []}
 use lib.ListN.{length, getD, set}
 use Rattle.rules.specs.Job.{Job, Proper}
-use Rattle.rules.specs.State.{Fate, Row, Proc, Entry, State, fresh, noRow, rowOf, deadlineOf, leftOf, waiting, taken, finished, dropped, idle, running}
+use Rattle.rules.specs.State.{Fate, Row, Proc, State, fresh, noRow, rowOf, deadlineOf, leftOf, waiting, taken, finished, dropped, idle, running}
 use Rattle.rules.specs.Picks.{Picks}
 use Rattle.rules.specs.Give.{oneLess, giveTo, give}
 use Rattle.rules.specs.Run.{tick, before, releasedAt, run}
+use Rattle.rules.specs.Result.{outcomeNumber}
+use Rattle.promises.specs.Plan.{jobOf, Plan, goesTo, earns, allCosts}
+use Rattle.promises.specs.RunPlan.{runningRow, decidedAt}
 use Rattle.promises.specs.Lawful.{Waits, Lawful}
-use Rattle.promises.specs.Plan.{Plan, goesTo, earns, allCosts}
-use Rattle.promises.specs.RunPlan.{runningRow}
 use Rattle.promises.proofs.Rows.{at-and-beside, set-keeps}
-use Rattle.promises.proofs.Stack.{same-other, occurs, rowsOf, Below}
+use Rattle.promises.proofs.RowNumbers.{same-other}
+use Rattle.promises.proofs.Stack.{below-lax}
 use Rattle.promises.proofs.Steps.{Phase, opening, deciding}
-use Rattle.promises.proofs.Wf.{ifTaken, leastLeft, Wf, resting, busy, fate-ok, once-running, running-inside, idle-not-taken}
+use Rattle.promises.proofs.Wf.{fate-ok, ifTaken, leastLeft, Wf, resting, busy, once-running, running-inside, idle-not-taken}
 use Rattle.promises.proofs.WithinTick.{met-keeps}
-use Rattle.promises.proofs.Always.{decidedAt, before-wf, decidedAt-met, decidedAt-wf}
+use Rattle.promises.proofs.Always.{before-wf, decidedAt-met, decidedAt-wf}
 use Rattle.promises.proofs.Carried.{step-carries, decidedAt-carries, give-given}
 use Rattle.promises.proofs.End.{Settled, timely, run-ends, end-settled}
-use Rattle.promises.proofs.Ticks.{goesTo-own}
-use Rattle.promises.proofs.Earning.{jobOf}
 use Rattle.promises.proofs.Listed.{listed, unlisted}
+use Rattle.promises.proofs.Ticks.{goesTo-own}
 use Rattle.promises.proofs.SecondHalf.{serves-start, serves-idle, serves-run}
 use Rattle.promises.proofs.Served.{owed, ServesOwed, Served, serves-less, served-before, announced}
-use Rattle.promises.proofs.EarliestFirst.{NotDropped, Earliest, Foremost, foremost-runs, phase-foremost, foremost-step}
+use Rattle.promises.proofs.EarliestFirst.{Earliest, NotDropped, Foremost, foremost-runs, phase-foremost, foremost-step}
 
 -- Down the stack deadlines increase.
-below-later : (rows : List Row) (t d b : ℕ) (es : List Entry) → Below rows t d b es → (j : ℕ) → 1 ≤ occurs j (rowsOf es) → d < getD rows j noRow .job .deadline
-unfolding occurs rowsOf
-below-later rows t d b [] k j o = absurd (omega arith)
-below-later rows t d b (e ∷ es) k i o =
-    at-and-beside (λ (j : ℕ). 1 ≤ occurs j (e .row ∷ rowsOf es) → d < getD rows j noRow .job .deadline) (e .row)
-    (λ _. k .0 .later)
-    (λ j n o′. omega (arith, k .0 .later, below-later rows t _ _ es (k .1) j (omega (arith, same-other j (e .row) n))))
-    i
-    o
-
 taken-later : {ph : Phase} {t r : ℕ} {s : State} → Wf ph t s → s .proc ≡ running r → (j : ℕ) → rowOf s j .fate ≡ taken → deadlineOf s r ≤ deadlineOf s j
 unfolding ifTaken
 taken-later {t = t} {r} {s} w e =
     at-and-beside (λ (j : ℕ). rowOf s j .fate ≡ taken → deadlineOf s r ≤ deadlineOf s j) r (λ _. omega arith)
-    (λ j n f. omega (arith, below-later (s .rows) t _ _ (s .delayed) (busy w e .below) j (omega (arith, same-other j r n, once-running w e j, ap ifTaken f))))
+    (λ j n f. omega (arith, below-lax (s .rows) t _ _ (s .delayed) (omega arith) (busy w e .below) j (omega (arith, same-other j r n, once-running w e j, ap ifTaken f))))
 
 -- D changes no fate and no deadline.
 giveTo-foremost : (t : ℕ) (s : State) (pr : Proc) → s .proc ≡ pr → Foremost deciding (s .rows) (s .proc)
@@ -105,14 +96,11 @@ module _ {jobs : List Job} {q : Plan} {t : ℕ} {s : State} (w : Wf deciding t s
       (omega (arith, give-given w r, ap (λ (pr : Proc). goesTo r (runningRow pr)) e, goesTo-own r))
       (λ i n. omega (arith, give-given w i))
 
--- The row was finished, at some tick u.
-abbrev pub Finished : Fate → Type 0
-Finished f = (u : ℕ) × (f ≡ finished u)
-
-finished-or : (f : Fate) → Settled f → NotDropped f → Finished f
+finished-or : (f : Fate) → Settled f → NotDropped f → outcomeNumber f ≡ 1
+unfolding outcomeNumber
 finished-or waiting k n = absurd k
 finished-or taken k n = absurd k
-finished-or (finished u) k n = (u, refl)
+finished-or (finished u) k n = refl
 finished-or (dropped u) k n = absurd n
 
 -- Where the run stands before tick n: some plan serves all that remains, and the earliest deadline runs.
@@ -156,9 +144,9 @@ module _ {p : Picks} (l : Lawful p) (jobs : List Job) (proper : Proper jobs) whe
         let on = serves-on (decidedAt-wf l (releasedAt jobs) (timely l jobs proper) n) (ahead-served n a) f (unlisted p jobs proper n) (s .proc) refl in
         record { plan = on .0; serves = on .1; foremost = giveTo-foremost n s (s .proc) refl f }
 
-    -- Every row of the list is finished.
-    pub all-finished : (j : ℕ) → j < length jobs → Finished (rowOf (run p jobs .state) j .fate)
-    all-finished j h =
+    -- Every row is finished.
+    pub all-finished : (j : ℕ) → outcomeNumber (rowOf (run p jobs .state) j .fate) ≡ 1
+    all-finished j =
         let e : run p jobs .state ≡ decidedAt p (releasedAt jobs) (run p jobs .tick) = run-ends l jobs proper .state in
         finished-or (rowOf (run p jobs .state) j .fate) (end-settled l jobs proper j)
         (subst (λ (s : State). NotDropped (rowOf s j .fate)) (sym e) (ahead-foremost (run p jobs .tick) (always-ahead (run p jobs .tick)) .noneDropped j))

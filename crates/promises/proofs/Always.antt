@@ -10,13 +10,14 @@ use Rattle.rules.specs.State.{State, fresh}
 use Rattle.rules.specs.Picks.{Picks}
 use Rattle.rules.specs.Give.{give}
 use Rattle.rules.specs.Run.{tick, before}
+use Rattle.promises.specs.RunPlan.{decidedAt}
 use Rattle.promises.specs.Lawful.{Lawful}
-pub use Rattle.promises.specs.Bound.{decidedAt}
 use Rattle.promises.proofs.Rows.{finished-not-waiting}
-use Rattle.promises.proofs.Stack.{occurs, rowsOf, stackOf, heldBy}
-use Rattle.promises.proofs.Steps.{Phase, Step, NothingDue, opening, deciding}
+use Rattle.promises.proofs.Sums.{sumBy}
+use Rattle.promises.proofs.Stack.{rowsOf, stackOf}
+use Rattle.promises.proofs.Steps.{Phase, opening, deciding, Step, NothingDue}
 use Rattle.promises.proofs.Wf.{ifTaken, Wf}
-use Rattle.promises.proofs.WfKept.{give-wf}
+use Rattle.promises.proofs.WfGiven.{give-wf}
 use Rattle.promises.proofs.WithinTick.{Met, met-wf, met-keeps, Timely, decided-met}
 use Rattle.promises.proofs.Fuel.{nothing-due}
 
@@ -33,7 +34,7 @@ pub record KeptAlong (p : Picks) (released : ℕ → List Job) (Q : Phase → �
   pub gives : (n : ℕ) → Q deciding n (decidedAt p released n) → Q opening (n + 1) (give n (decidedAt p released n))
 
 fresh-wf : Wf opening 0 fresh
-unfolding fresh occurs rowsOf stackOf heldBy ifTaken
+unfolding fresh sumBy rowsOf stackOf ifTaken
 fresh-wf =
     record {
       proc = record { nothingDelayed = refl; nothingWaits = λ j q. finished-not-waiting q };

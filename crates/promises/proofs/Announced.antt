@@ -13,9 +13,9 @@ use Rattle.rules.specs.Job.{Job, ProperFrom, Proper}
 use Rattle.rules.specs.State.{fresh}
 use Rattle.rules.specs.Picks.{Picks}
 use Rattle.rules.specs.Run.{before, releasedAt}
+use Rattle.promises.specs.RunPlan.{decidedAt}
 use Rattle.rules.proofs.Choose.{by-test}
 use Rattle.promises.proofs.WithinTick.{Timely}
-use Rattle.promises.proofs.Always.{decidedAt}
 use Rattle.promises.proofs.Jobs.{jobsOf, decided-jobs, tick-jobs}
 
 -- Every job of the list has a release before t.

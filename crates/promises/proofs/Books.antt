@@ -1,5 +1,5 @@
 -- The numbers that the ledger weighs, each read off the rows: what finished rows pay for the counted ticks, what remains of the
--- stack, and the reach; and how they change with one row, an announcement and a takeover. Rests on Reach and Sums.
+-- stack, and the reach; and how they change with one row, an announcement and a takeover. Rests on Reach, Sums and Wf.
 use Prim.Native.Nat.{ℕ, _+_, _*_, _≤_, _<_, max}
 use native.Mathlib.Omega.{arith}
 use mathlib.Core.Path.{_≡_, refl, sym, ap, _∙_}
@@ -14,9 +14,9 @@ use Rattle.rules.specs.LatestStarts.{displaced, displace}
 use Rattle.promises.specs.Bound.{droppedDeadline, reach}
 use Rattle.rules.proofs.Choose.{by-test}
 use Rattle.promises.proofs.Rows.{getD-displaced}
-use Rattle.promises.proofs.Sums.{sumBy, sumBy-set, sumBy-le, sumBy-append, sumBy-none}
-use Rattle.promises.proofs.Reach.{reach-set, reach-append}
+use Rattle.promises.proofs.Sums.{sumBy, sumBy-none, sumBy-set, sumBy-le, sumBy-append}
 use Rattle.promises.proofs.Wf.{ifTaken, waits-inside}
+use Rattle.promises.proofs.Reach.{reach-set, reach-append}
 
 -- The cost of a job that is through at u, if that is not before its deadline; else 0.
 unfoldable pub lateCost : ℕ → ℕ → ℕ → ℕ
@@ -94,7 +94,7 @@ keeps-none (dropped u) left z = refl
 -- Where nothing runs or is delayed, nothing remains.
 pub nothing-left : (rows : List Row) → ((j : ℕ) → ifTaken (getD rows j noRow .fate) ≡ 0) → stackLeft rows ≡ 0
 unfolding stackLeft
-nothing-left rows none = sumBy-none _ rows (λ j. keeps-none (getD rows j noRow .fate) (getD rows j noRow .left) (none j))
+nothing-left rows none = sumBy-none _ noRow rows (λ j. keeps-none (getD rows j noRow .fate) (getD rows j noRow .left) (none j))
 
 displaced-pays : (f : Fate) (j : Job) → pays f j ≤ pays (displaced f) j
 unfolding displaced pays

@@ -1,5 +1,5 @@
--- What becomes of the rows within a tick: A, B and C change no announced row's job and give no tick; D gives one to the running
--- row. So what a row was given is counted by D alone. Rests on WithinTick and Always.
+-- What becomes of rows and stretches within a tick: A, B and C change no announced row's job, give no tick and leave the stretches;
+-- D gives one tick to the running row. So what a row was given is counted by D alone. Rests on WithinTick and Always.
 use Prim.Native.Nat.{ℕ, _+_, _≤_, _<_}
 use native.Mathlib.Nat.{le-refl, le-trans}
 use native.Mathlib.Omega.{arith}
@@ -16,15 +16,15 @@ use Rattle.rules.specs.Finish.{settleFinished, goIdle, resume}
 use Rattle.rules.specs.LatestStarts.{displace, takeOver, dropRow}
 use Rattle.rules.specs.Give.{oneLess, giveTo, give}
 use Rattle.rules.specs.Run.{before}
-use Rattle.promises.specs.Lawful.{Lawful}
 use Rattle.promises.specs.Plan.{goesTo}
-use Rattle.promises.specs.RunPlan.{runningRow}
+use Rattle.promises.specs.RunPlan.{runningRow, decidedAt}
+use Rattle.promises.specs.Lawful.{Lawful}
 use Rattle.promises.proofs.Rows.{at-and-beside, set-keeps, all-append, getD-displaced}
-use Rattle.promises.proofs.Steps.{Phase, Step, deciding, rests, runsOn, idles, startsFirst, resumes, resumesOffering, starts, preempts, waitsOn, appears, decides, takesOver, isDropped}
-use Rattle.promises.proofs.Wf.{RowOk, Busy, Wf, leastLeft, busy, running-inside}
+use Rattle.promises.proofs.RowNumbers.{same, same-self, same-other}
+use Rattle.promises.proofs.Steps.{Phase, deciding, Step, rests, runsOn, idles, startsFirst, resumes, resumesOffering, starts, preempts, waitsOn, appears, decides, takesOver, isDropped}
+use Rattle.promises.proofs.Wf.{RowOk, leastLeft, Busy, Wf, busy, running-inside}
 use Rattle.promises.proofs.WithinTick.{met-keeps, Timely}
-use Rattle.promises.proofs.Always.{decidedAt, before-wf, decidedAt-met}
-use Rattle.promises.proofs.Ticks.{goesTo-own, goesTo-other}
+use Rattle.promises.proofs.Always.{before-wf, decidedAt-met}
 
 -- No row is lost, each keeps its job, and none was given a tick. (A row that is not there was given none either.)
 pub record Carries (rows rows′ : List Row) : Type 0 where
@@ -87,6 +87,23 @@ step-carries {s = s} (decides) = carries-all (s .rows)
 step-carries {s = s} (takesOver i e due costly) = carries-on (carries-displaced (s .rows)) (carries-mark i taken _)
 step-carries {t} {s = s} (isDropped i e due cheap) = carries-mark i (dropped t) (s .rows)
 
+-- They leave the stretches as they are.
+pub step-stretches : {t : ℕ} {ph ph′ : Phase} {s s′ : State} → Step t ph s ph′ s′ → s′ .stretches ≡ s .stretches
+unfolding goIdle start preempt append takeOver dropRow resume settleFinished
+step-stretches (rests e) = refl
+step-stretches (runsOn e u) = refl
+step-stretches (idles e z d n) = refl
+step-stretches (startsFirst i e z d f) = refl
+step-stretches (resumes e z d n) = refl
+step-stretches (resumesOffering e z d f n) = refl
+step-stretches (starts e) = refl
+step-stretches (preempts e earlier roomy) = refl
+step-stretches (waitsOn e n) = refl
+step-stretches (appears j released feasible) = refl
+step-stretches (decides) = refl
+step-stretches (takesOver i e due costly) = refl
+step-stretches (isDropped i e due cheap) = refl
+
 -- What is decided in tick n leaves the rows so.
 pub decidedAt-carries : {p : Picks} → Lawful p → (released : ℕ → List Job) → ((t : ℕ) → Timely t (released t))
     → (n : ℕ) → Carries (before p released n .rows) (decidedAt p released n .rows)
@@ -98,17 +115,17 @@ decidedAt-carries {p} l released timely n =
     (decidedAt-met l released timely n)
 
 -- D: the running row is given one tick more, and no other row any.
-giveTo-given : {t : ℕ} {s : State} → Wf deciding t s → (pr : Proc) → s .proc ≡ pr
+pub giveTo-given : {t : ℕ} {s : State} → Wf deciding t s → (pr : Proc) → s .proc ≡ pr
     → (i : ℕ) → given (rowOf (giveTo pr t s) i) ≡ given (rowOf s i) + goesTo i (runningRow pr)
-unfolding giveTo oneLess goesTo runningRow leastLeft
+unfolding giveTo oneLess goesTo same runningRow leastLeft
 giveTo-given w idle e = λ i. omega arith
 giveTo-given {t} {s} w (running r) e =
     let x : Row = oneLess (rowOf s r) in
     let k : RowOk t (rowOf s r) = w .row r in
     let b : Busy deciding t s r = busy w e in
     at-and-beside (λ (i : ℕ). given (getD (set (s .rows) r x) i noRow) ≡ given (rowOf s i) + goesTo i (some r)) r
-    (omega (arith, ap (λ (y : Row). given y) (getD-set-same (s .rows) r x noRow (running-inside w e)), goesTo-own r, k .within, b .unfinished))
-    (λ i n. omega (arith, ap (λ (y : Row). given y) (getD-set-other (s .rows) r i x noRow n), goesTo-other i r (λ q. n (sym q))))
+    (omega (arith, ap (λ (y : Row). given y) (getD-set-same (s .rows) r x noRow (running-inside w e)), same-self r, k .within, b .unfinished))
+    (λ i n. omega (arith, ap (λ (y : Row). given y) (getD-set-other (s .rows) r i x noRow n), same-other r i (λ q. n (sym q))))
 
 pub give-given : {t : ℕ} {s : State} → Wf deciding t s → (i : ℕ) → given (rowOf (give t s) i) ≡ given (rowOf s i) + goesTo i (runningRow (s .proc))
 give-given {s = s} w = giveTo-given w (s .proc) refl

@@ -11,10 +11,10 @@ use Rattle.rules.specs.Job.{Job}
 use Rattle.rules.specs.State.{Fate, Row, Proc, State, noRow, rowOf, deadlineOf, leftOf, mark, waiting, taken, finished, dropped, idle, running}
 use Rattle.rules.specs.Announce.{start, preempt, append}
 use Rattle.rules.specs.Finish.{settleFinished, goIdle, resume}
-use Rattle.promises.specs.Lawful.{Waits, IsFirst}
 use Rattle.promises.specs.Plan.{Plan}
+use Rattle.promises.specs.Lawful.{Waits, IsFirst}
 use Rattle.promises.proofs.Rows.{all-set, Same, same-mark, all-append, same-append}
-use Rattle.promises.proofs.Steps.{Phase, Step, opening, offering, announcing, deciding, rests, runsOn, idles, startsFirst, resumes, resumesOffering, starts, preempts, waitsOn, appears, decides, takesOver, isDropped}
+use Rattle.promises.proofs.Steps.{Phase, opening, offering, announcing, deciding, Step, rests, runsOn, idles, startsFirst, resumes, resumesOffering, starts, preempts, waitsOn, appears, decides, takesOver, isDropped}
 use Rattle.promises.proofs.Wf.{leastLeft, Wf, resting, busy, waits-inside, running-inside}
 use Rattle.promises.proofs.Served.{Served, accepted, not-due}
 

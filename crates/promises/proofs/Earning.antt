@@ -6,16 +6,10 @@ use mathlib.Core.Path.{_≡_}
 use native.Mathlib.Nat.{add-zero, add-suc, suc-add}
 use native.Mathlib.Omega.{arith}
 use lib.Dec.{leb}
-use lib.ListN.{getD}
 use borrow.Author.Tests.{leb-true}
 use Rattle.rules.specs.Job.{Job}
-use Rattle.rules.specs.State.{noRow}
-use Rattle.promises.specs.Plan.{Plan, ticksInTime, earnsRow, earnsFrom, allCosts}
+use Rattle.promises.specs.Plan.{jobOf, Plan, ticksInTime, earnsRow, earnsFrom, allCosts}
 use Rattle.rules.proofs.Choose.{by-test}
-
--- The job of row k; where there is none, one of no cost and without a window.
-abbrev pub jobOf : List Job → ℕ → Job
-jobOf jobs k = getD jobs k (noRow .job)
 
 pub earnsRow-le : (q : Plan) (i : ℕ) (j : Job) → (earnsRow q i j ≤ j .cost) × (earnsRow q i j ≤ ticksInTime q i j)
 unfolding earnsRow

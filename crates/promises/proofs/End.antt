@@ -1,5 +1,5 @@
--- Fact 9: the run of a proper list ends, at or before its greatest deadline, at the first tick where it may; there every row
--- is announced and settled, and the state is the one that the tick rules decide. Rests on Always and Announced.
+-- The run of a proper list ends, at or before its greatest deadline, at the first tick where it may; there every row is announced
+-- and settled, and the state is the one that the tick rules decide. Rests on Always and Announced.
 use Prim.Native.Nat.{ℕ, zero, suc, _+_, _≤_, _<_}
 use native.Mathlib.Numerals.{add-one}
 use native.Mathlib.Omega.{arith}
@@ -15,13 +15,14 @@ use Rattle.rules.specs.State.{Fate, Row, Proc, State, fresh, noRow, rowOf, wait
 use Rattle.rules.specs.Picks.{Picks}
 use Rattle.rules.specs.Give.{give}
 use Rattle.rules.specs.Run.{decided, tick, before, releasedAt, allAnnounced, isIdle, End, runFrom, greatestDeadline, run}
+use Rattle.promises.specs.RunPlan.{decidedAt}
 use Rattle.promises.specs.Lawful.{Lawful}
 use Rattle.rules.proofs.Choose.{by-both}
 use Rattle.promises.proofs.Rows.{at-and-beside}
 use Rattle.promises.proofs.Steps.{Phase, deciding}
 use Rattle.promises.proofs.Wf.{ifTaken, leastLeft, Wf, resting, taken-lax, running-taken, idle-not-taken}
 use Rattle.promises.proofs.WithinTick.{Timely}
-use Rattle.promises.proofs.Always.{Kept, decidedAt, decidedAt-wf, always-decided}
+use Rattle.promises.proofs.Always.{Kept, decidedAt-wf, always-decided}
 use Rattle.promises.proofs.Jobs.{jobsOf}
 use Rattle.promises.proofs.Announced.{Split, released-timely, decided-split}
 

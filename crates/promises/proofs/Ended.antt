@@ -1,5 +1,5 @@
 -- After its end a run stays as it is: nothing runs, nothing waits and nothing is announced, so every later tick decides the same
--- state. So what holds of the tick rules at the greatest deadline holds of the run's end. Rests on End.
+-- state. So the run gives all its ticks before its end, and its end is the state at the greatest deadline. Rests on End.
 use Prim.Native.Nat.{ℕ, zero, suc, _+_, _-_, _≤_, _<_}
 use native.Mathlib.Nat.{add-zero, add-suc, add-sub-of-le}
 use native.Mathlib.Omega.{arith}
@@ -17,8 +17,8 @@ use Rattle.rules.specs.Finish.{finishOf}
 use Rattle.rules.specs.LatestStarts.{decide, decideAll, latestStarts}
 use Rattle.rules.specs.Give.{giveTo, give}
 use Rattle.rules.specs.Run.{decided, tick, before, releasedAt, allAnnounced, greatestDeadline, run}
-use Rattle.promises.specs.Lawful.{Lawful, Waits}
-use Rattle.promises.specs.Bound.{decidedAt}
+use Rattle.promises.specs.RunPlan.{decidedAt}
+use Rattle.promises.specs.Lawful.{Waits, Lawful}
 use Rattle.promises.proofs.Wf.{resting}
 use Rattle.promises.proofs.WithinTick.{if-found}
 use Rattle.promises.proofs.Always.{decidedAt-wf}
@@ -68,8 +68,14 @@ module _ {p : Picks} (l : Lawful p) (jobs : List Job) (proper : Proper jobs) whe
       (released-after (run p jobs .tick) (suc n) jobs (run-ends l jobs proper .announced) (omega arith))
       ∙ same-state
 
-  -- The state at the greatest deadline is that of the run's end.
+  -- From the end on, every tick decides the state of the end;
+  stays-after : (n : ℕ) → run p jobs .tick ≤ n → decidedAt p (releasedAt jobs) n ≡ run p jobs .state
+  stays-after n h = ap (decidedAt p (releasedAt jobs)) (sym (add-sub-of-le h)) ∙ stays (n - run p jobs .tick)
+
+  -- so nothing runs there,
+  pub idle-after : (n : ℕ) → run p jobs .tick ≤ n → decidedAt p (releasedAt jobs) n .proc ≡ idle
+  idle-after n h = ap (λ (s : State). s .proc) (stays-after n h) ∙ run-ends l jobs proper .atRest
+
+  -- and the state at the greatest deadline is that of the end.
   pub end-stays : decidedAt p (releasedAt jobs) (greatestDeadline jobs) ≡ run p jobs .state
-  end-stays =
-      ap (decidedAt p (releasedAt jobs)) (sym (add-sub-of-le (run-ends l jobs proper .byDeadline)))
-      ∙ stays (greatestDeadline jobs - run p jobs .tick)
+  end-stays = stays-after (greatestDeadline jobs) (run-ends l jobs proper .byDeadline)

@@ -3,7 +3,7 @@
 use Prim.Native.Nat.{ℕ, suc, _+_, _-_, _≤_, _<_, zero-le}
 use mathlib.Core.List.{List, [], _∷_, map}
 use mathlib.Core.Bool.{Bool, true, false}
-use mathlib.Core.Path.{_≡_, refl}
+use mathlib.Core.Path.{_≡_}
 use native.Mathlib.Nat.{le-refl}
 use native.Mathlib.Omega.{arith}
 use lib.ListN.{getD}
@@ -13,26 +13,11 @@ use Rattle.rules.specs.State.{Row, noRow}
 use Rattle.promises.specs.Plan.{Plan, goesTo, ticks, ticksInTime, earnsRow, earnsFrom, earns}
 use Rattle.promises.specs.Bound.{count, isEarly, earlyValue}
 use Rattle.rules.proofs.Choose.{by-test}
-use Rattle.promises.proofs.Ticks.{goesTo-other, ticks-le}
-use Rattle.promises.proofs.Counting.{sumOver, occurs, Distinct, distinct-nil, distinct-cons, only, counting}
+use Rattle.promises.proofs.Sums.{sumBy}
+use Rattle.promises.proofs.RowNumbers.{numbers, numbers-distinct}
+use Rattle.promises.proofs.Ticks.{ticks-le}
+use Rattle.promises.proofs.Counting.{only, counting}
 use Rattle.promises.proofs.Earning.{earnsRow-le}
-
--- The row numbers of a list whose first row is numbered i.
-unfoldable pub numbers : {A : Type 0} → ℕ → List A → List ℕ
-numbers i [] = []
-numbers i (r ∷ rows) = i ∷ numbers (suc i) rows
-
-numbers-fresh : {A : Type 0} (k i : ℕ) (rows : List A) → k < i → occurs k (numbers i rows) ≡ 0
-unfolding numbers sumOver
-numbers-fresh k i [] h = refl
-numbers-fresh k i (r ∷ rows) h =
-    omega (arith, goesTo-other i k (λ e. omega arith), numbers-fresh k (suc i) rows (omega arith))
-
-pub numbers-distinct : {A : Type 0} (i : ℕ) (rows : List A) → Distinct (numbers i rows)
-unfolding numbers
-numbers-distinct i [] = distinct-nil
-numbers-distinct i (r ∷ rows) =
-    distinct-cons i (numbers (suc i) rows) (numbers-fresh i (suc i) rows (le-refl (suc i))) (numbers-distinct (suc i) rows)
 
 -- Every tick of a job's window is counted.
 abbrev pub Covered : (ℕ → Bool) → Job → Type 0
@@ -59,8 +44,8 @@ module _ (q : Plan) (counted : ℕ → Bool) (n : ℕ) where
   earnsFrom-at-most : (i : ℕ) (rows : List Row)
       → ((k : ℕ) → LateCovered counted (getD rows k noRow))
       → ((k : ℕ) → getD rows k noRow .job .deadline ≤ n)
-      → earnsFrom q i (map (λ (r : Row). r .job) rows) ≤ earlyValue rows + sumOver (λ k. ticks (only counted q) k 0 n) (numbers i rows)
-  unfolding earnsFrom earlyValue numbers sumOver
+      → earnsFrom q i (map (λ (r : Row). r .job) rows) ≤ earlyValue rows + sumBy (λ k. ticks (only counted q) k 0 n) (numbers i rows)
+  unfolding earnsFrom earlyValue numbers sumBy
   earnsFrom-at-most i [] c d = zero-le
   earnsFrom-at-most i (r ∷ rows) c d =
       omega (arith, earnsRow-at-most i r (c 0) (d 0), earnsFrom-at-most (suc i) rows (λ k. c (suc k)) (λ k. d (suc k)))

@@ -1,7 +1,6 @@
 -- Demand 3, first half: no plan earns more with a proper list than the bound that its run shows, and this is at most 4 × the run's
 -- value. Rests on the ledger, on the counted windows, and on the plan's side of the argument, FirstHalf.
 use Prim.Native.Nat.{ℕ, _+_, _*_, _≤_}
-use native.Mathlib.Nat.{le-trans}
 use native.Mathlib.Omega.{arith}
 use mathlib.Core.Path.{_≡_, refl, ap, subst}
 use mathlib.Core.Bool.{Bool, true, false}
@@ -16,10 +15,10 @@ use Rattle.rules.specs.Result.{valueOf, valueOfRows}
 use Rattle.promises.specs.Plan.{Plan, earns}
 use Rattle.promises.specs.Lawful.{Lawful}
 use Rattle.promises.specs.Bound.{counted, count, isEarly, earlyValue, bound}
-use Rattle.promises.proofs.End.{timely, row-deadline, run-ends, end-rows}
+use Rattle.promises.proofs.Sums.{sumBy}
+use Rattle.promises.proofs.End.{row-deadline, timely, run-ends, end-rows}
 use Rattle.promises.proofs.Ended.{end-stays}
 use Rattle.promises.proofs.FirstHalf.{LateCovered, earns-at-most}
-use Rattle.promises.proofs.Sums.{sumBy}
 use Rattle.promises.proofs.Books.{lateCost, pays, paid}
 use Rattle.promises.proofs.Ledger.{Ledger, clear, ledger-along}
 use Rattle.promises.proofs.Windows.{late-covered}
@@ -47,7 +46,7 @@ module _ {p : Picks} (l : Lawful p) (jobs : List Job) (proper : Proper jobs) whe
   end-deadline k = omega (arith, row-deadline (run p jobs .state .rows) k, ap greatestDeadline (end-rows l jobs proper))
 
   -- What is counted: every tick from release to deadline - 1 of each row that was dropped, or finished exactly at its deadline.
-  pub end-covered : (k : ℕ) → LateCovered (counted p (releasedAt jobs)) (rowOf (run p jobs .state) k)
+  end-covered : (k : ℕ) → LateCovered (counted p (releasedAt jobs)) (rowOf (run p jobs .state) k)
   end-covered k =
       subst (λ (s : State). rowOf s k .job .deadline ≤ greatestDeadline jobs → LateCovered (counted p (releasedAt jobs)) (rowOf s k)) (end-stays l jobs proper)
       (late-covered l (releasedAt jobs) (timely l jobs proper) (greatestDeadline jobs) k) (end-deadline k)
@@ -68,7 +67,3 @@ module _ {p : Picks} (l : Lawful p) (jobs : List Job) (proper : Proper jobs) whe
   pub bound-four-times : bound p jobs ≤ 4 * valueOfRows (run p jobs .state .rows)
   unfolding bound
   bound-four-times = omega (arith, end-paid, rows-four-times (run p jobs .state .rows))
-
-  -- What any plan earns, even one that knows the future, is at most 4 × the run's value.
-  pub four-times : (q : Plan) → earns q jobs ≤ 4 * valueOfRows (run p jobs .state .rows)
-  four-times q = le-trans (within-bound q) bound-four-times

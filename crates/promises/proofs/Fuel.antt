@@ -1,5 +1,5 @@
--- Fact 8: step C ends. Each decision lowers a count of at most two for each row, so twice the rows are decisions enough, and
--- after C nothing is due. Rests on WithinTick and Sums.
+-- Step C ends. Each decision lowers a count of at most two for each row, so twice the rows are decisions enough, and after C
+-- nothing is due. Rests on WithinTick and Sums.
 use Prim.Native.Nat.{ℕ, zero, suc, _+_, _*_, _≤_, _<_}
 use native.Mathlib.Omega.{arith}
 use mathlib.Core.Path.{_≡_, refl, sym, ap, subst, _∙_}
@@ -19,11 +19,11 @@ use Rattle.rules.specs.Run.{decided}
 use Rattle.promises.specs.Lawful.{Due, Lawful}
 use Rattle.rules.proofs.Choose.{by-test}
 use Rattle.promises.proofs.Rows.{all-set, Same, same-mark, getD-displaced, same-displaced}
-use Rattle.promises.proofs.Stack.{same, same-eq, same-small}
-use Rattle.promises.proofs.Steps.{NothingDue, opening, deciding}
+use Rattle.promises.proofs.Sums.{sumBy, sumBy-set, sumBy-part, sumBy-bound, sumBy-less}
+use Rattle.promises.proofs.RowNumbers.{same, same-eq, same-small}
+use Rattle.promises.proofs.Steps.{opening, deciding, NothingDue}
 use Rattle.promises.proofs.Wf.{Wf, resting, waits-inside, taken-cost}
 use Rattle.promises.proofs.WithinTick.{Met, met-wf, Timely, if-found, decide-met, announced-met}
-use Rattle.promises.proofs.Sums.{sumBy, sumBy-set, sumBy-part, sumBy-bound, sumBy-less}
 
 -- How many decisions a row may still cause while a job of cost c runs, by its fate, its cost, and 1 or 0 for being due: one
 -- for a pending row that is due, and one more if it waits and costs more than c.

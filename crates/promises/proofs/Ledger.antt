@@ -1,5 +1,5 @@
 -- The ledger of demand 3's first half: at every point of every run the counted ticks so far, and those that the reach will still
--- count, are covered by what finished rows paid and by the stack's costs. One lemma for each kind of sub-step. Rests on Books.
+-- count, are covered by what finished rows paid and by the stack's costs. One lemma for each kind of sub-step. Rests on Books and Always.
 use Prim.Native.Nat.{ℕ, _+_, _-_, _*_, _≤_, _<_}
 use native.Mathlib.Nat.{add-zero}
 use native.Mathlib.Numerals.{add-one}
@@ -18,18 +18,19 @@ use Rattle.rules.specs.Announce.{start, preempt, append}
 use Rattle.rules.specs.Finish.{settleFinished, goIdle, resume}
 use Rattle.rules.specs.LatestStarts.{displace, takeOver, dropRow}
 use Rattle.rules.specs.Give.{oneLess, giveTo, give}
+use Rattle.promises.specs.RunPlan.{decidedAt}
 use Rattle.promises.specs.Lawful.{Waits, Due, IsFirst, Lawful}
-use Rattle.promises.specs.Bound.{decidedAt, droppedDeadline, reach, counts, counted, countFrom, count}
+use Rattle.promises.specs.Bound.{droppedDeadline, reach, counts, counted, countFrom, count}
 use Rattle.rules.proofs.Choose.{by-test}
 use Rattle.promises.proofs.Rows.{Same, same-mark, same-append, getD-displaced, same-displaced, displaced-waits}
-use Rattle.promises.proofs.Stack.{heldBy, below-fits}
-use Rattle.promises.proofs.Steps.{Phase, Step, opening, offering, announcing, deciding, rests, runsOn, idles, startsFirst, resumes, resumesOffering, starts, preempts, waitsOn, appears, decides, takesOver, isDropped}
+use Rattle.promises.proofs.Sums.{sumBy}
+use Rattle.promises.proofs.Stack.{rowsOf, heldBy, below-fits}
+use Rattle.promises.proofs.Steps.{Phase, opening, offering, announcing, deciding, Step, rests, runsOn, idles, startsFirst, resumes, resumesOffering, starts, preempts, waitsOn, appears, decides, takesOver, isDropped}
 use Rattle.promises.proofs.Wf.{WaitingOk, fate-ok, leastLeft, Wf, busy, running-inside, running-taken}
 use Rattle.promises.proofs.WfKept.{Free, idle-free, settled-free, displaced-free}
 use Rattle.promises.proofs.WithinTick.{Timely}
 use Rattle.promises.proofs.Always.{KeptAlong, decidedAt-wf, along-decided}
 use Rattle.promises.proofs.Counting.{count-suc}
-use Rattle.promises.proofs.Sums.{sumBy}
 use Rattle.promises.proofs.Reach.{reach-covers, reach-displaced}
 use Rattle.promises.proofs.Books.{lateCost, lateCost-none, lateCost-whole, lateCost-small, pays, paid, keeps, stackLeft, Replaced, replaced, from-waiting, added, nothing-left, displaced-paid}
 
@@ -82,11 +83,11 @@ module _ {n t r : ℕ} {s : State} (w : Wf opening t s) (e : s .proc ≡ running
   finish-tight = rw (z, add-zero)
 
   finish-clear : s .delayed ≡ [] → Clear n t (settleFinished t r s .rows)
-  unfolding settleFinished pays keeps droppedDeadline heldBy
+  unfolding settleFinished pays keeps droppedDeadline sumBy rowsOf
   finish-clear d = omega (arith, finish-books, finish-tight, w .held, ap (heldBy (s .rows)) d)
 
   resume-owes : {x : Entry} {rest : List Entry} → s .delayed ≡ x ∷ rest → Owes n t (resume t x rest (settleFinished t r s)) (x .row)
-  unfolding settleFinished resume pays keeps droppedDeadline heldBy
+  unfolding settleFinished resume pays keeps droppedDeadline sumBy rowsOf
   resume-owes {x} d =
       omega (arith, finish-books, finish-tight, w .held, ap (heldBy (s .rows)) d, same-mark (s .rows) r (finished t) (x .row))
 
@@ -122,7 +123,7 @@ module _ {n t r : ℕ} {s : State} (w : Wf deciding t s) (e : s .proc ≡ runnin
   takeOver-owes costly =
       let rows : List Row = map displace (s .rows) in
       let k : WaitingOk t (rowOf s i .job) (rowOf s i .left) = fate-ok (w .row i) (due .0) in
-      let l : deadlineOf s i - leftOf s i ≡ t = due .1 in
+      let l : deadlineOf s i - leftOf s i ≡ t = omega (arith, due .1) in
       let m : Same (s .rows) rows i = same-displaced (s .rows) i in
       let o : Same rows (mark i taken rows) i = same-mark rows i taken i in
       let none : stackLeft rows ≡ 0 = nothing-left rows (λ j. rw (getD-displaced (s .rows) j) (displaced-free (rowOf s j .fate))) in
@@ -141,7 +142,7 @@ module _ {n t r : ℕ} {s : State} (w : Wf deciding t s) (e : s .proc ≡ runnin
   unfolding dropRow pays keeps droppedDeadline
   drop-owes cheap =
       let k : WaitingOk t (rowOf s i .job) (rowOf s i .left) = fate-ok (w .row i) (due .0) in
-      let l : deadlineOf s i - leftOf s i ≡ t = due .1 in
+      let l : deadlineOf s i - leftOf s i ≡ t = omega (arith, due .1) in
       let m : Same (s .rows) (mark i (dropped t) (s .rows)) r = same-mark (s .rows) i (dropped t) r in
       let same-tight : tight t (rowOf (dropRow t i s) r) ≡ tight t (rowOf s r) = cc in
       omega (arith, from-waiting (s .rows) i (dropped t) (due .0), w .row i .within)

@@ -1,5 +1,5 @@
 -- A run's rows against its list, by number: an announced row has the list's job, and a row still to be announced is released
--- later. This is how the promises pass from a state to the list. Rests on Announced.
+-- later; at the end all are announced. This is how the promises pass from a state to the list. Rests on Announced and End.
 use Prim.Native.Nat.{ℕ, zero, suc, _+_, _-_, _≤_, _<_}
 use native.Mathlib.Omega.{arith}
 use mathlib.Core.Path.{_≡_, sym, ap, _∙_}
@@ -9,11 +9,13 @@ use lib.Seq.{getD-append-add}
 use Rattle.rules.specs.Job.{Job, ProperFrom, Proper}
 use Rattle.rules.specs.State.{Row, State, noRow, rowOf}
 use Rattle.rules.specs.Picks.{Picks}
-use Rattle.rules.specs.Run.{releasedAt}
-use Rattle.promises.proofs.Always.{decidedAt}
+use Rattle.rules.specs.Run.{releasedAt, run}
+use Rattle.promises.specs.Plan.{jobOf}
+use Rattle.promises.specs.RunPlan.{decidedAt}
+use Rattle.promises.specs.Lawful.{Lawful}
 use Rattle.promises.proofs.Jobs.{jobsOf}
 use Rattle.promises.proofs.Announced.{Split, decided-split}
-use Rattle.promises.proofs.Earning.{jobOf}
+use Rattle.promises.proofs.End.{end-rows}
 
 -- Row i of the state has the job that stands at i among the state's jobs.
 pub job-at : (s : State) (i : ℕ) → jobOf (jobsOf s) i ≡ rowOf s i .job
@@ -41,3 +43,11 @@ module _ (p : Picks) (jobs : List Job) (proper : Proper jobs) (n : ℕ) where
       let e : jobOf jobs i ≡ jobOf (k .rest) m =
       ap (λ (js : List Job). jobOf js i) (k .whole) ∙ ap (jobOf (jobsOf s ++ k .rest)) at ∙ getD-append-add (jobsOf s) (k .rest) m (noRow .job) in
       omega (arith, proper-release (n + 1) (k .rest) (k .later) m (rw e at c), ap (λ (j : Job). j .release) e)
+
+-- At the end, the rows are the list's.
+module _ {p : Picks} (l : Lawful p) (jobs : List Job) (proper : Proper jobs) where
+  pub end-listed : (i : ℕ) → rowOf (run p jobs .state) i .job ≡ jobOf jobs i
+  end-listed i = sym (job-at (run p jobs .state) i) ∙ ap (λ (js : List Job). jobOf js i) (end-rows l jobs proper)
+
+  pub end-length : length (run p jobs .state .rows) ≡ length jobs
+  end-length = sym (length-map (run p jobs .state .rows) (λ (r : Row). r .job)) ∙ ap length (end-rows l jobs proper)

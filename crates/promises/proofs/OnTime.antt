@@ -1,5 +1,5 @@
 -- The run as a plan: it gives each row, between its release and its deadline and before the end, just the ticks that the row's
--- state counts. So every finished row is finished on time, and the plan earns the run's value. Rests on Carried and AfterEnd.
+-- state counts. So every finished row is finished on time, and the plan earns the run's value. Rests on Carried, Ended and Listed.
 use Prim.Native.Nat.{ℕ, zero, suc, _+_, _-_, _≤_, _<_, zero-le}
 use native.Mathlib.Nat.{le-antisymm, zero-add, add-zero, add-suc, suc-add}
 use native.Mathlib.Omega.{arith}
@@ -14,18 +14,17 @@ use Rattle.rules.specs.State.{Fate, Row, Proc, State, fresh, noRow, rowOf, give
 use Rattle.rules.specs.Picks.{Picks}
 use Rattle.rules.specs.Run.{tick, before, releasedAt, run}
 use Rattle.rules.specs.Result.{valueOf, valueOfRows}
+use Rattle.promises.specs.Plan.{jobOf, Plan, ticks, ticksInTime, earnsRow, earnsFrom, earns}
+use Rattle.promises.specs.RunPlan.{runningRow, decidedAt, runPlan}
 use Rattle.promises.specs.Lawful.{Lawful}
-use Rattle.promises.specs.Plan.{Plan, ticks, ticksInTime, earnsRow, earnsFrom, earns}
-use Rattle.promises.specs.RunPlan.{runningRow, runPlan}
 use Rattle.promises.proofs.Steps.{deciding}
-use Rattle.promises.proofs.Wf.{FinishedOk, RowOk, Wf, leastLeft, fate-ok, running-inside, running-taken, taken-lax}
-use Rattle.promises.proofs.Always.{decidedAt, decidedAt-wf}
+use Rattle.promises.proofs.Wf.{FinishedOk, RowOk, fate-ok, leastLeft, Wf, running-inside, taken-lax, running-taken}
+use Rattle.promises.proofs.Always.{decidedAt-wf}
 use Rattle.promises.proofs.Carried.{decidedAt-carries, give-given}
 use Rattle.promises.proofs.End.{Settled, timely, run-ends, end-wf, end-rows, end-settled}
-use Rattle.promises.proofs.AfterEnd.{idle-after}
+use Rattle.promises.proofs.Ended.{idle-after}
+use Rattle.promises.proofs.Listed.{listed, end-listed}
 use Rattle.promises.proofs.Ticks.{ticks-lie}
-use Rattle.promises.proofs.Earning.{jobOf}
-use Rattle.promises.proofs.Listed.{job-at, listed}
 
 runs-row : {j : ℕ} (pr : Proc) → runningRow pr ≡ some j → pr ≡ running j
 unfolding runningRow
@@ -48,13 +47,6 @@ unfolding earnsFrom valueOfRows
 earns-rows q i [] h = refl
 earns-rows q i (r ∷ rows) h =
     omega (arith, rw add-zero at (h 0), earns-rows q (suc i) rows (λ k. rw (add-suc, ← suc-add) at (h (suc k))))
-
--- Row j, finished at u, is on time: it gets exactly its cost in ticks from its release to before its deadline, it gets no tick
--- outside them, and u is no later than the deadline.
-pub record FinishedOnTime (p : Picks) (jobs : List Job) (j u : ℕ) : Type 0 where
-  pub whole : ticksInTime (runPlan p jobs) j (jobOf jobs j) ≡ jobOf jobs j .cost
-  pub inTime : (t : ℕ) → runPlan p jobs t ≡ some j → (jobOf jobs j .release ≤ t) × (t < jobOf jobs j .deadline)
-  pub byDeadline : u ≤ jobOf jobs j .deadline
 
 module _ {p : Picks} (l : Lawful p) (jobs : List Job) (proper : Proper jobs) where
   -- Before tick n a row was given the ticks below n that the plan gives it.
@@ -88,10 +80,6 @@ module _ {p : Picks} (l : Lawful p) (jobs : List Job) (proper : Proper jobs) whe
       λ h. let z : _≡_ {A = ℕ} 0 1 = cc (idle-after l jobs proper t h, runs-row (decidedAt p (releasedAt jobs) t .proc) e) in omega arith in
       omega arith
 
-  -- The rows at the end have the list's jobs.
-  end-listed : (j : ℕ) → rowOf (run p jobs .state) j .job ≡ jobOf jobs j
-  end-listed j = sym (job-at (run p jobs .state) j) ∙ ap (λ (js : List Job). jobOf js j) (end-rows l jobs proper)
-
   -- Ticks given, as the run ends, are the ticks that the plan gives below the end;
   pub given-ticks : (j : ℕ) → given (rowOf (run p jobs .state) j) ≡ ticks (runPlan p jobs) j 0 (run p jobs .tick)
   given-ticks j =
@@ -110,16 +98,13 @@ module _ {p : Picks} (l : Lawful p) (jobs : List Job) (proper : Proper jobs) whe
       (ticks-lie q q j 0 (run p jobs .tick) (x .release) (x .deadline - x .release) (λ t h k e. let i = in-time t j e in (i .0, omega arith, e)))
       ∙ sym (given-ticks j)
 
-  -- Every row that the run finishes is on time.
-  pub on-time : (j u : ℕ) → rowOf (run p jobs .state) j .fate ≡ finished u → FinishedOnTime p jobs j u
+  -- A row that the run finishes got exactly its cost, and is finished on time.
+  pub on-time : (j u : ℕ) → rowOf (run p jobs .state) j .fate ≡ finished u
+      → (given (rowOf (run p jobs .state) j) ≡ jobOf jobs j .cost) × (u ≤ jobOf jobs j .deadline)
   on-time j u e =
       let s : State = run p jobs .state in
       let k : FinishedOk (run p jobs .tick) u (rowOf s j .job) (rowOf s j .left) = fate-ok (end-wf l jobs proper .row j) e in
-      record {
-        whole = omega (arith, given-in-time j, k .through, ap (λ (x : Job). x .cost) (end-listed j));
-        inTime = λ t. in-time t j;
-        byDeadline = omega (arith, k .onTime, ap (λ (x : Job). x .deadline) (end-listed j));
-      }
+      omega (arith, k, ap (λ (x : Job). x .cost) (end-listed l jobs proper j), ap (λ (x : Job). x .deadline) (end-listed l jobs proper j))
 
   -- A row earns in the plan what it brings to the run's value.
   earns-fate : (j : ℕ) (f : Fate) → rowOf (run p jobs .state) j .fate ≡ f → Settled f
@@ -128,11 +113,11 @@ module _ {p : Picks} (l : Lawful p) (jobs : List Job) (proper : Proper jobs) whe
   earns-fate j waiting e k = absurd k
   earns-fate j taken e k = absurd k
   earns-fate j (finished u) e k =
-      earnsRow-enough _ _ _ (omega (arith, fate-ok (end-wf l jobs proper .row j) e .through, ap (ticksInTime (runPlan p jobs) j) (end-listed j), given-in-time j))
+      earnsRow-enough _ _ _ (omega (arith, fate-ok (end-wf l jobs proper .row j) e .through, ap (ticksInTime (runPlan p jobs) j) (end-listed l jobs proper j), given-in-time j))
   earns-fate j (dropped u) e k =
       let r : RowOk (run p jobs .tick) (rowOf (run p jobs .state) j) = end-wf l jobs proper .row j in
       earnsRow-short _ _ _
-      (omega (arith, r .within, fate-ok r e .unfinished, ap (ticksInTime (runPlan p jobs) j) (end-listed j), given-in-time j))
+      (omega (arith, r .within, fate-ok r e .unfinished, ap (ticksInTime (runPlan p jobs) j) (end-listed l jobs proper j), given-in-time j))
 
   -- So the run is itself a plan that earns its value.
   pub run-earns : earns (runPlan p jobs) jobs ≡ valueOfRows (run p jobs .state .rows)

@@ -1,5 +1,5 @@
 -- Laws of rows by number, with `noRow` where there is none: what a change of one row, an appended row and a takeover leave
--- as it was; and sums over rows. Facts of all rows need no bound on the number. Rests on State and the library's lists.
+-- as it was. Facts of all rows need no bound on the number. Rests on State and the library's lists.
 use Prim.Native.Nat.{ℕ, zero, suc, _<_, suc-le-suc}
 use native.Mathlib.Omega.{arith}
 use native.Mathlib.Decide.{ℕ-discrete}

@@ -1,17 +1,19 @@
 -- The plan's side of demand 3's second half, for any run: a plan that gives every row in time what is left of it, and how one
 -- still does after a tick. Rows are known by their releases, deadlines and remaining ticks. Rests on Counting and Earning.
 use Prim.Native.Nat.{ℕ, suc, _+_, _-_, _≤_, _<_}
-use mathlib.Core.List.{List, [], _∷_}
+use mathlib.Core.List.{List}
 use mathlib.Core.Option.{some}
 use mathlib.Core.Path.{_≡_, sym, ap, _∙_}
 use native.Mathlib.Nat.{le-refl, le-trans, zero-add}
 use native.Mathlib.Decide.{decLe, ℕ-discrete}
 use native.Mathlib.Omega.{arith}
 use Rattle.rules.specs.Job.{Job}
-use Rattle.promises.specs.Plan.{Plan, goesTo, ticks, earns, allCosts}
+use Rattle.promises.specs.Plan.{jobOf, Plan, goesTo, ticks, earns, allCosts}
+use Rattle.promises.proofs.Sums.{sumBy}
+use Rattle.promises.proofs.RowNumbers.{occurs, over-le, Distinct}
 use Rattle.promises.proofs.Ticks.{goesTo-own, goesTo-other, ticks-first, ticks-some, ticks-le, put, put-at, swap, ticks-swap, ticks-swap-off}
-use Rattle.promises.proofs.Counting.{sumOver, AllOf, Distinct, sumOver-le, counting-all}
-use Rattle.promises.proofs.Earning.{jobOf, earns-all}
+use Rattle.promises.proofs.Counting.{counting-all}
+use Rattle.promises.proofs.Earning.{earns-all}
 
 -- Every row gets what is left of it before its deadline: from tick t on if it is released by then, else from its release on.
 -- A finished row has nothing left; a row still to be announced has all its cost left.
@@ -28,20 +30,15 @@ serves-start q jobs e =
     record { now = λ i h. let z : jobOf jobs i .release ≡ 0 = omega arith in rw z at (inTime i); later = λ i h. inTime i }
 
 module _ (release deadline left : ℕ → ℕ) (q : Plan) (t : ℕ) (serves : Serves release deadline left q t) where
-  AllOf-ticks : (d : ℕ) (is : List ℕ)
-      → AllOf (λ i. (release i ≤ t) × (deadline i ≤ d)) is
-      → AllOf (λ i. left i ≤ ticks q i t (d - t)) is
-  AllOf-ticks d [] h = tt
-  AllOf-ticks d (i ∷ is) h = (
-    le-trans (serves .now i (h .0 .0))
-        (ticks-le q q i t (deadline i - t) t (d - t) (λ s l m. (l, omega arith, le-refl _))),
-    AllOf-ticks d is (h .1),
-  )
-
   -- The demand lemma: what is left of rows without repetition, released by t and with deadlines by d, fits between t and d.
-  pub serves-demand : (d : ℕ) (is : List ℕ) → Distinct is → AllOf (λ i. (release i ≤ t) × (deadline i ≤ d)) is → sumOver left is ≤ d - t
+  pub serves-demand : (d : ℕ) (is : List ℕ) → Distinct is → ((i : ℕ) → 1 ≤ occurs i is → (release i ≤ t) × (deadline i ≤ d)) → sumBy left is ≤ d - t
   serves-demand d is e h =
-      omega (arith, sumOver-le left (λ i. ticks q i t (d - t)) is (AllOf-ticks d is h), counting-all q is e t (d - t))
+      omega (
+        arith,
+        over-le left (λ i. ticks q i t (d - t)) is
+            (λ i o. le-trans (serves .now i (h i o .0)) (ticks-le q q i t (deadline i - t) t (d - t) (λ s l m. (l, omega (arith, h i o .1), le-refl _)))),
+        counting-all q is e t (d - t),
+      )
 
   -- One tick on, each row released by t has lost at most what the plan gave it of tick t.
   serves-next : (left′ : ℕ → ℕ)

@@ -3,23 +3,22 @@
 use Prim.Native.Nat.{ℕ, _+_, _-_, _≤_, _<_}
 use native.Mathlib.Nat.{le-trans}
 use native.Mathlib.Omega.{arith}
-use mathlib.Core.Path.{_≡_, refl, sym, ap, _∙_}
-use mathlib.Core.Option.{some}
+use mathlib.Core.Path.{_≡_, sym, ap, _∙_}
 use mathlib.Core.List.{List, [], _∷_}
 use lib.ListN.{length, getD}
 use Rattle.rules.specs.Job.{Job}
 use Rattle.rules.specs.State.{Row, State, noRow, rowOf, deadlineOf, leftOf, given, running}
+use Rattle.promises.specs.Plan.{jobOf, Plan}
 use Rattle.promises.specs.Lawful.{Waits, Due}
-use Rattle.promises.specs.Plan.{Plan, goesTo}
 use Rattle.promises.proofs.Rows.{at-and-beside}
-use Rattle.promises.proofs.Stack.{same, same-self, same-other, occurs, rowsOf}
+use Rattle.promises.proofs.Sums.{sumBy}
+use Rattle.promises.proofs.RowNumbers.{same, same-self, same-other, occurs, each-row, over-le, Distinct}
+use Rattle.promises.proofs.Stack.{rowsOf}
 use Rattle.promises.proofs.Steps.{Phase}
 use Rattle.promises.proofs.Wf.{WaitingOk, RowOk, fate-ok, ifTaken, Wf, waits-inside, taken-inside, once-running, ifTaken-small}
 use Rattle.promises.proofs.Room.{leftSum, Tight, room-tight}
-use Rattle.promises.proofs.Counting.{sumOver, AllOf, sumOver-le}
-use Rattle.promises.proofs.Earning.{jobOf}
-use Rattle.promises.proofs.SecondHalf.{Serves, serves-demand}
 use Rattle.promises.proofs.Carried.{Carries}
+use Rattle.promises.proofs.SecondHalf.{Serves, serves-demand}
 
 -- What a row of the list, announced or not, has not been given yet.
 abbrev pub owed : List Job → List Row → ℕ → ℕ
@@ -46,23 +45,6 @@ served-before {jobs} {rows = rows} c v =
       serves = serves-less (owed jobs rows) (λ i. omega (arith, c .given i)) (v .serves);
     }
 
--- What holds of each row that stands in a list holds of all of the list.
-all-of : (P : ℕ → Type 0) (is : List ℕ) → ((j : ℕ) → 1 ≤ occurs j is → P j) → AllOf P is
-unfolding occurs
-all-of P [] k = tt
-all-of P (i ∷ is) k = (k i (omega (arith, same-self i)), all-of P is (λ j o. k j (omega arith)))
-
--- The two ways to say how often row k stands in a list are one.
-occurs-over : (k : ℕ) (is : List ℕ) → sumOver (λ i. goesTo i (some k)) is ≡ occurs k is
-unfolding sumOver occurs goesTo same
-occurs-over k [] = refl
-occurs-over k (i ∷ is) = omega (arith, occurs-over k is)
-
-leftSum-over : (rows : List Row) (is : List ℕ) → leftSum rows is ≡ sumOver (λ i. getD rows i noRow .left) is
-unfolding leftSum sumOver
-leftSum-over rows [] = refl
-leftSum-over rows (i ∷ is) = omega (arith, leftSum-over rows is)
-
 module _ {jobs : List Job} {q : Plan} {ph : Phase} {t : ℕ} {s : State} (w : Wf ph t s) (v : Served jobs q t (s .rows)) where
   -- An announced row is released by now, has its deadline in the list, and is owed what remains of it.
   pub announced : (j : ℕ) → j < length (s .rows)
@@ -73,36 +55,31 @@ module _ {jobs : List Job} {q : Plan} {ph : Phase} {t : ℕ} {s : State} (w : Wf
       omega (arith, k .within, k .since, ap (λ (x : Job). x .release) e, ap (λ (x : Job). x .deadline) e, ap (λ (x : Job). x .cost) e)
 
   -- The demand lemma, of announced rows: what remains of rows without repetition that have deadlines by d fits between t and d.
-  demand : (d : ℕ) (is : List ℕ) → ((j : ℕ) → occurs j is ≤ 1) → ((j : ℕ) → 1 ≤ occurs j is → (j < length (s .rows)) × (deadlineOf s j ≤ d))
+  demand : (d : ℕ) (is : List ℕ) → Distinct is → ((j : ℕ) → 1 ≤ occurs j is → (j < length (s .rows)) × (deadlineOf s j ≤ d))
       → leftSum (s .rows) is ≤ d - t
   demand d is once each =
       omega (
         arith,
-        serves-demand _ _ _ q t (v .serves) d is (λ k. omega (arith, occurs-over k is, once k))
-            (all-of _ is (λ j o. omega (arith, announced j (each j o .0), each j o .1))),
-        leftSum-over (s .rows) is,
-        sumOver-le (λ i. leftOf s i) (owed jobs (s .rows)) is (all-of _ is (λ j o. omega (arith, announced j (each j o .0)))),
+        serves-demand _ _ _ q t (v .serves) d is once (λ j o. omega (arith, announced j (each j o .0), each j o .1)),
+        over-le (λ i. leftOf s i) (owed jobs (s .rows)) is (λ j o. omega (arith, announced j (each j o .0))),
       )
 
   -- So what remains of a waiting row and of the stack, from the top down to some row, fits before d if their deadlines do.
   waiting-and-stack : {r : ℕ} (i : ℕ) → s .proc ≡ running r → Waits (s .rows) i → (upto : List ℕ) → ((j : ℕ) → occurs j upto ≤ occurs j (rowsOf (s .delayed)))
       → (d : ℕ) → deadlineOf s i ≤ d → ((j : ℕ) → 1 ≤ occurs j (r ∷ upto) → deadlineOf s j ≤ d)
       → leftOf s i + leftSum (s .rows) (r ∷ upto) ≤ d - t
-  unfolding occurs leftSum ifTaken
+  unfolding sumBy ifTaken
   waiting-and-stack {r} i e f upto part d soon within =
       demand d (i ∷ r ∷ upto)
       (at-and-beside (λ (j : ℕ). same j i + (same j r + occurs j upto) ≤ 1) i
       (omega (arith, same-self i, part i, once-running w e i, ap ifTaken f))
       (λ j n. omega (arith, same-other j i n, part j, once-running w e j, ifTaken-small (rowOf s j .fate))))
-      (at-and-beside (λ (j : ℕ). 1 ≤ same j i + (same j r + occurs j upto) → (j < length (s .rows)) × (deadlineOf s j ≤ d)) i
-      (λ _. (waits-inside (s .rows) i f, soon))
-      (λ j n o.
-      let o′ : 1 ≤ same j r + occurs j upto = omega (arith, same-other j i n) in
-      (taken-inside (s .rows) j (omega (arith, part j, once-running w e j)), within j o′)))
+      (each-row (λ (j : ℕ). (j < length (s .rows)) × (deadlineOf s j ≤ d)) i (r ∷ upto) (waits-inside (s .rows) i f, soon)
+      (λ j o. (taken-inside (s .rows) j (omega (arith, part j, once-running w e j)), within j o)))
 
   -- An offer with an earlier deadline than the running job's is accepted: there is room.
   pub accepted : {r : ℕ} (i : ℕ) → s .proc ≡ running r → Waits (s .rows) i → deadlineOf s i < deadlineOf s r → leftOf s i ≤ s .room
-  unfolding occurs
+  unfolding sumBy
   accepted {r} i e f earlier =
       let k : Tight (s .rows) (t + s .room) r (rowsOf (s .delayed)) = room-tight w e in
       omega (
@@ -113,12 +90,12 @@ module _ {jobs : List Job} {q : Plan} {ph : Phase} {t : ℕ} {s : State} (w : Wf
 
   -- While a job runs that is not through and whose deadline is no later than a waiting row's, that row is not due.
   pub not-due : {r : ℕ} (i : ℕ) → s .proc ≡ running r → 1 ≤ leftOf s r → deadlineOf s r ≤ deadlineOf s i → Due t (s .rows) i → ⊥
-  unfolding occurs leftSum
+  unfolding sumBy
   not-due {r} i e u earlier due =
       let k : WaitingOk t (rowOf s i .job) (rowOf s i .left) = fate-ok (w .row i) (due .0) in
       omega (
         arith,
         waiting-and-stack i e (due .0) [] (λ j. omega arith) (deadlineOf s i) (omega arith)
-            (at-and-beside (λ (j : ℕ). 1 ≤ same j r + 0 → deadlineOf s j ≤ deadlineOf s i) r (λ _. earlier) (λ j n o. absurd (omega (arith, same-other j r n)))),
+            (each-row (λ (j : ℕ). deadlineOf s j ≤ deadlineOf s i) r [] earlier (λ j o. absurd (omega arith))),
         due .1,
       )

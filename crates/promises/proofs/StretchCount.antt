@@ -1,13 +1,13 @@
--- Fact 10: never more stretches in all than three times the rows. A row may cause one by being announced, one by taking over and
--- one by finishing. No takeover need be counted by itself (fact 7): a runner without laxity stands for its own, no offer preempts
--- it, and a takeover leaves it due, so that some row is dropped before the tick is given. Rests on End and Sums.
+-- Never more stretches in all than three times the rows. A row may cause one by being announced, one by taking over and one by
+-- finishing. No takeover need be counted by itself: a runner without laxity stands for its own, no offer preempts it, and a
+-- takeover leaves it due, so that some row is dropped before the tick is given. Rests on End, Listed and Sums.
 use Prim.Native.Nat.{ℕ, suc, _+_, _-_, _*_, _≤_, _<_}
 use native.Mathlib.Omega.{arith}
 use native.Mathlib.Decide.{decLe}
 use mathlib.Core.Path.{_≡_, refl, sym, ap, subst, _∙_}
 use mathlib.Core.Logic.{_≢_}
 use mathlib.Core.List.{List, [], _∷_, _++_, map}
-use lib.ListN.{length, getD, set, length-set, length-map}
+use lib.ListN.{length, getD, set, length-set}
 use lib.Seq.{getD-set-same, getD-set-other}
 use borrow.Author.Tests.{eq-eqb}
 use Rattle.rules.specs.Choose.{choose}
@@ -24,11 +24,12 @@ use Rattle.rules.proofs.Choose.{by-test}
 use Rattle.promises.proofs.Rows.{Same, same-mark, same-append, getD-displaced, same-displaced}
 use Rattle.promises.proofs.Sums.{sumBy, sumBy-set, sumBy-bound, sumBy-append}
 use Rattle.promises.proofs.Stack.{below-fits}
-use Rattle.promises.proofs.Steps.{Phase, Step, NothingDue, opening, offering, announcing, deciding, rests, runsOn, idles, startsFirst, resumes, resumesOffering, starts, preempts, waitsOn, appears, decides, takesOver, isDropped}
-use Rattle.promises.proofs.Wf.{Wf, WaitingOk, fate-ok, leastLeft, busy, waits-inside, running-inside, running-taken, taken-lax}
+use Rattle.promises.proofs.Steps.{Phase, opening, offering, announcing, deciding, Step, rests, runsOn, idles, startsFirst, resumes, resumesOffering, starts, preempts, waitsOn, appears, decides, takesOver, isDropped, NothingDue}
+use Rattle.promises.proofs.Wf.{WaitingOk, fate-ok, leastLeft, Wf, busy, waits-inside, running-inside, taken-lax, running-taken}
 use Rattle.promises.proofs.WithinTick.{Timely}
-use Rattle.promises.proofs.Always.{Kept, decidedAt, before-wf, decidedAt-wf, always, always-decided}
-use Rattle.promises.proofs.End.{end-wf, end-rows, end-kept}
+use Rattle.promises.proofs.Always.{Kept, before-wf, always}
+use Rattle.promises.proofs.End.{end-wf, end-kept}
+use Rattle.promises.proofs.Listed.{end-length}
 
 taken-not-waiting : taken ≡ waiting → ⊥
 taken-not-waiting e = let z : _≡_ {A = ℕ} 0 1 = cc in omega arith
@@ -301,19 +302,16 @@ counted-bound : {ph : Phase} {t : ℕ} {s : State} → Wf ph t s → Counted ph 
 counted-bound {ph} {t} {s} w q = omega (arith, counted-within ph t s q, allowed-bound w (s .proc) refl)
 
 module _ {p : Picks} (l : Lawful p) where
-  module _ (released : ℕ → List Job) (timely : (t : ℕ) → Timely t (released t)) (n : ℕ) where
-    pub count-before : length (before p released n .stretches) ≤ 3 * length (before p released n .rows)
-    count-before = counted-bound (before-wf l released timely n) (always l released timely Counted counted-kept n)
+  -- There are never more stretches in all than three times the rows: before every tick, so that a fixed array holds them,
+  pub count-before : (released : ℕ → List Job) → ((t : ℕ) → Timely t (released t)) → (n : ℕ)
+      → length (before p released n .stretches) ≤ 3 * length (before p released n .rows)
+  count-before released timely n = counted-bound (before-wf l released timely n) (always l released timely Counted counted-kept n)
 
-    pub count-decided : length (decidedAt p released n .stretches) ≤ 3 * length (decidedAt p released n .rows)
-    count-decided = counted-bound (decidedAt-wf l released timely n) (always-decided l released timely Counted counted-kept n)
-
-  -- There are never more stretches in all than three times the rows.
+  -- and at the end of a list's run.
   pub end-count : (jobs : List Job) → Proper jobs → length (run p jobs .state .stretches) ≤ 3 * length jobs
   end-count jobs proper =
       omega (
         arith,
         counted-bound (end-wf l jobs proper) (end-kept l jobs proper Counted counted-kept),
-        length-map (run p jobs .state .rows) (λ (r : Row). r .job),
-        ap length (end-rows l jobs proper),
+        end-length l jobs proper,
       )

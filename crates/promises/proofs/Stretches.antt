@@ -1,65 +1,36 @@
 -- The stretches of a run: none is empty, they ascend and do not overlap, those that touch are of different rows, all end by the
--- present tick and name announced rows, and each row's ticks given are the sum of its stretches' lengths. Rests on End.
+-- present tick and name announced rows, and each row's ticks given are the sum of its stretches' lengths. Rests on End and Carried.
 use Prim.Native.Nat.{ℕ, _+_, _-_, _≤_, _<_}
 use native.Mathlib.Omega.{arith}
 use native.Mathlib.Decide.{decLt}
-use mathlib.Core.Path.{_≡_, refl, sym, ap, _∙_}
-use mathlib.Core.Logic.{_≢_}
+use mathlib.Core.Path.{_≡_, refl, sym, ap, subst, _∙_}
 use mathlib.Core.Bool.{Bool, true, false}
-use mathlib.Core.List.{List, [], _∷_, map, reverse, reverseAux}
+use mathlib.Core.List.{List, [], _∷_, reverse, reverseAux}
 use lib.Dec.{eqb}
 use lib.ListN.{length, getD, List·getD-eq-default}
 use borrow.Author.Tests.{eqb-true, eqb-false, eq-eqb}
+use mathlib.Core.Option.{some}
 use Rattle.rules.specs.Choose.{choose}
 use Rattle.rules.specs.Job.{Job, Proper}
-use Rattle.rules.specs.State.{Fate, Row, Proc, Stretch, State, fresh, noRow, rowOf, leftOf, given, withFate, mark, taken, finished, dropped, idle, running}
+use Rattle.rules.specs.State.{Row, Proc, Stretch, State, fresh, noRow, given, idle, running}
 use Rattle.rules.specs.Picks.{Picks}
-use Rattle.rules.specs.Announce.{start, preempt, append}
-use Rattle.rules.specs.Finish.{settleFinished, goIdle, resume}
-use Rattle.rules.specs.LatestStarts.{displace, takeOver, dropRow}
-use Rattle.rules.specs.Give.{stretch, oneLess, giveTo}
+use Rattle.rules.specs.Give.{stretch, giveTo}
 use Rattle.rules.specs.Run.{before, run}
+use Rattle.promises.specs.Plan.{goesTo}
+use Rattle.promises.specs.RunPlan.{runningRow}
 use Rattle.promises.specs.Lawful.{Lawful}
+use Rattle.promises.specs.Stretches.{StretchOk, Precedes, ToFirst, InOrder, lengthFor, ticksIn}
 use Rattle.rules.proofs.Choose.{by-test, by-both}
-use Rattle.promises.proofs.Rows.{all-set, set-keeps, all-append, getD-displaced}
-use Rattle.promises.proofs.Stack.{same, same-self, same-other}
-use Rattle.promises.proofs.Steps.{Phase, Step, deciding, rests, runsOn, idles, startsFirst, resumes, resumesOffering, starts, preempts, waitsOn, appears, decides, takesOver, isDropped}
-use Rattle.promises.proofs.Wf.{Wf, RowOk, leastLeft, busy, running-inside}
+use Rattle.promises.proofs.RowNumbers.{same, same-self}
+use Rattle.promises.proofs.Steps.{Phase, deciding, Step}
+use Rattle.promises.proofs.Wf.{Wf}
 use Rattle.promises.proofs.WithinTick.{Timely}
-use Rattle.promises.proofs.Always.{Kept, decidedAt, always, always-decided}
+use Rattle.promises.proofs.Always.{Kept, always}
+use Rattle.promises.proofs.Carried.{step-carries, step-stretches, giveTo-given}
 use Rattle.promises.proofs.End.{end-kept}
-
--- One of n rows has had ticks, none of them later than t.
-pub record StretchOk (t n : ℕ) (x : Stretch) : Type 0 where
-  pub notEmpty : x .first < x .after
-  pub past : x .after ≤ t
-  pub named : x .row < n
-
--- The stretch y comes after x; if they touch, they are of different rows.
-pub record Precedes (x y : Stretch) : Type 0 where
-  pub apart : x .after ≤ y .first
-  pub longest : x .after ≡ y .first → x .row ≢ y .row
 
 abbrev pub Follows : Stretch → Stretch → Type 0
 Follows y x = Precedes x y
-
--- The stretch x stands so to the first of a list, if there is one.
-abbrev pub ToFirst : (Stretch → Stretch → Type 0) → Stretch → List Stretch → Type 0
-ToFirst R x [] = Unit {0}
-ToFirst R x (y ∷ ys) = R x y
-
--- Every stretch of a list is well, and stands so to the next.
-abbrev pub InOrder : (Stretch → Stretch → Type 0) → ℕ → ℕ → List Stretch → Type 0
-InOrder R t n [] = Unit {0}
-InOrder R t n (x ∷ xs) = StretchOk t n x × ToFirst R x xs × InOrder R t n xs
-
--- What a stretch has of row j's ticks, and what a list of stretches has.
-unfoldable pub lengthFor : ℕ → Stretch → ℕ
-lengthFor j x = choose (eqb j (x .row)) (x .after - x .first) 0
-
-unfoldable pub ticksIn : ℕ → List Stretch → ℕ
-ticksIn j [] = 0
-ticksIn j (x ∷ xs) = lengthFor j x + ticksIn j xs
 
 -- Stretches in time order (R is Precedes) or newest first (R is Follows), at tick t.
 pub record StretchesOk (R : Stretch → Stretch → Type 0) (t : ℕ) (rows : List Row) (xs : List Stretch) : Type 0 where
@@ -103,31 +74,12 @@ rows-keep {t} {rows} {xs} t′ rows′ h k same-given =
       ticks = λ j. same-given j ∙ k .ticks j;
     }
 
-mark-keeps : {t : ℕ} {rows : List Row} {xs : List Stretch} (i : ℕ) (f : Fate) → StretchesOk Follows t rows xs → StretchesOk Follows t (mark i f rows) xs
-mark-keeps {t} {rows} i f k = rows-keep t (mark i f rows) (omega arith) k (set-keeps given rows i (withFate f (getD rows i noRow)) refl)
-
 abbrev Stretched : Phase → ℕ → State → Type 0
 Stretched ph t s = StretchesOk Follows t (s .rows) (s .stretches)
 
 stretched-step : {t : ℕ} {ph ph′ : Phase} {s s′ : State} → Wf ph t s → Stretched ph t s → Step t ph s ph′ s′ → Stretched ph′ t s′
-unfolding goIdle start preempt append takeOver dropRow resume settleFinished displace
-stretched-step w q (rests e) = q
-stretched-step w q (runsOn e u) = q
-stretched-step {t} w q (idles {r = r} e z d n) = mark-keeps r (finished t) q
-stretched-step {t} w q (startsFirst {r = r} i e z d f) = mark-keeps i taken (mark-keeps r (finished t) q)
-stretched-step {t} w q (resumes {r = r} e z d n) = mark-keeps r (finished t) q
-stretched-step {t} w q (resumesOffering {r = r} e z d f n) = mark-keeps r (finished t) q
-stretched-step w q (starts {i = i} e) = mark-keeps i taken q
-stretched-step w q (preempts {i = i} e earlier roomy) = mark-keeps i taken q
-stretched-step w q (waitsOn e n) = q
-stretched-step {t} {s = s} w q (appears j released feasible) =
-    rows-keep t _ (omega arith) q (all-append (λ (i : ℕ) (x : Row). given x ≡ given (rowOf s i)) (s .rows) _
-    (omega (arith, given-outside (s .rows) (length (s .rows)) (omega arith)))
-    (λ i n. refl))
-stretched-step w q decides = q
-stretched-step {t} {s = s} w q (takesOver i e due costly) =
-    mark-keeps i taken (rows-keep t (map displace (s .rows)) (omega arith) q (λ j. ap given (getD-displaced (s .rows) j)))
-stretched-step {t} w q (isDropped i e due cheap) = mark-keeps i (dropped t) q
+stretched-step {t} {s′ = s′} w q x =
+    subst (StretchesOk Follows t (s′ .rows)) (sym (step-stretches x)) (rows-keep t (s′ .rows) (omega arith) q (step-carries x .given))
 
 -- Where a stretch ends does not matter to the one before it.
 grown-follows : (x y : Stretch) (xs : List Stretch) → x .row ≡ y .row → x .first ≡ y .first → ToFirst Follows x xs → ToFirst Follows y xs
@@ -137,7 +89,7 @@ grown-follows x y (z ∷ zs) e f k =
 
 lengthFor-empty : (t r j : ℕ) → lengthFor j (record { row = r; first = t; after = t }) ≡ 0
 unfolding lengthFor
-lengthFor-empty t r j = by-test (λ (n : ℕ). n ≡ 0) (eqb j r) (λ _. omega arith) (λ _. refl)
+lengthFor-empty t r j = by-test (λ (n : ℕ). n ≡ 0) (eqb r j) (λ _. omega arith) (λ _. refl)
 
 -- A stretch that grows by a tick has one tick more of its row's.
 lengthFor-grown : (b : Bool) (m n : ℕ) → m ≡ n + 1 → choose b m 0 ≡ choose b n 0 + choose b 1 0
@@ -146,12 +98,12 @@ lengthFor-grown true m n e = e
 lengthFor-grown false m n e = refl
 
 -- D: row r is given tick t.
-module _ (t r : ℕ) (rows rows′ : List Row) (more : (j : ℕ) → given (getD rows′ j noRow) ≡ given (getD rows j noRow) + same j r) where
+module _ (t r : ℕ) (rows rows′ : List Row) (more : (j : ℕ) → given (getD rows′ j noRow) ≡ given (getD rows j noRow) + goesTo j (some r)) where
   -- A stretch x of row r that ends at t, though it may be empty, grows.
   grown-ok : (x : Stretch) (xs : List Stretch) → x .row ≡ r → x .after ≡ t → x .first ≤ t → ToFirst Follows x xs → InOrder Follows t (length rows) xs
       → ((j : ℕ) → given (getD rows j noRow) ≡ lengthFor j x + ticksIn j xs)
       → StretchesOk Follows (t + 1) rows′ (record { row = r; first = x .first; after = t + 1 } ∷ xs)
-  unfolding ticksIn lengthFor same
+  unfolding ticksIn lengthFor goesTo same
   grown-ok x xs own now begun first k ticks =
       let one : t + 1 - x .first ≡ x .after - x .first + 1 = omega arith in
       record {
@@ -160,7 +112,7 @@ module _ (t r : ℕ) (rows rows′ : List Row) (more : (j : ℕ) → given (getD
           grown-follows x _ xs own refl first,
           order-keeps t (t + 1) (length rows) rows′ xs (omega arith) (λ j. omega (arith, more j, ticks j)) k,
         );
-        ticks = λ j. omega (arith, more j, ticks j, lengthFor-grown (eqb j r) _ _ one, ap (λ (i : ℕ). choose (eqb j i) (x .after - x .first) 0) own);
+        ticks = λ j. omega (arith, more j, ticks j, lengthFor-grown (eqb r j) _ _ one, ap (λ (i : ℕ). choose (eqb i j) (x .after - x .first) 0) own);
       }
 
   -- A new stretch is an empty one that grows.
@@ -180,17 +132,9 @@ module _ (t r : ℕ) (rows rows′ : List Row) (more : (j : ℕ) → given (getD
 
 giveTo-stretched : {t : ℕ} {s : State} → Wf deciding t s → Stretched deciding t s → (p : Proc) → s .proc ≡ p
     → StretchesOk Follows (t + 1) (giveTo p t s .rows) (giveTo p t s .stretches)
-unfolding giveTo oneLess leastLeft
+unfolding giveTo runningRow
 giveTo-stretched {t} {s} w q idle e = rows-keep (t + 1) (s .rows) (omega arith) q (λ j. refl)
-giveTo-stretched {t} {s} w q (running r) e =
-    let u : 1 ≤ leftOf s r = busy w e .unfinished in
-    let k : RowOk t (rowOf s r) = w .row r in
-    stretch-ok t r (s .rows) _
-    (all-set (λ (j : ℕ) (x : Row). given x ≡ given (rowOf s j) + same j r) (s .rows) r _ (running-inside w e)
-    (omega (arith, same-self r))
-    (λ j n. omega (arith, same-other j r n)))
-    (s .stretches)
-    q
+giveTo-stretched {t} {s} w q (running r) e = stretch-ok t r (s .rows) _ (giveTo-given w (running r) e) (s .stretches) q
 
 stretched-kept : Kept Stretched
 unfolding fresh ticksIn
@@ -218,13 +162,11 @@ in-time-order {t} {rows} {xs} k =
     record { order = order-reversed t (length rows) xs (k .order); ticks = λ j. omega (arith, k .ticks j, ticks-onto j xs []) }
 
 module _ {p : Picks} (l : Lawful p) where
-  module _ (released : ℕ → List Job) (timely : (t : ℕ) → Timely t (released t)) (n : ℕ) where
-    pub stretches-before : StretchesOk Follows n (before p released n .rows) (before p released n .stretches)
-    stretches-before = always l released timely Stretched stretched-kept n
+  -- The stretches before every tick, newest first,
+  pub stretches-before : (released : ℕ → List Job) → ((t : ℕ) → Timely t (released t)) → (n : ℕ)
+      → StretchesOk Follows n (before p released n .rows) (before p released n .stretches)
+  stretches-before released timely n = always l released timely Stretched stretched-kept n
 
-    pub stretches-decided : StretchesOk Follows n (decidedAt p released n .rows) (decidedAt p released n .stretches)
-    stretches-decided = always-decided l released timely Stretched stretched-kept n
-
-  -- The stretches of a list's result.
+  -- and those of a list's result, in time order.
   pub end-stretches : (jobs : List Job) → Proper jobs → StretchesOk Precedes (run p jobs .tick) (run p jobs .state .rows) (reverse (run p jobs .state .stretches))
   end-stretches jobs proper = in-time-order (end-kept l jobs proper Stretched stretched-kept)

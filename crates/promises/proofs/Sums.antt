@@ -1,5 +1,5 @@
--- Sums over rows of a number read off each: after one row changed or was appended, against a bound, and against another list's.
--- Counting arguments about rows go through here. Rests on State and the library's lists.
+-- Sums over a list of a number read off each element; of rows: after one changed or was appended, against a bound, and against
+-- another list's. Counting arguments go through here. Rests on State and the library's lists.
 use Prim.Native.Nat.{ℕ, zero, suc, _+_, _*_, _≤_, _<_}
 use native.Mathlib.Nat.{le-of-suc-le-suc}
 use native.Mathlib.Omega.{arith}
@@ -8,9 +8,20 @@ use mathlib.Core.List.{List, [], _∷_, _++_}
 use lib.ListN.{length, getD, set}
 use Rattle.rules.specs.State.{Row, noRow}
 
-unfoldable pub sumBy : (Row → ℕ) → List Row → ℕ
+unfoldable pub sumBy : {A : Type 0} → (A → ℕ) → List A → ℕ
 sumBy f [] = 0
-sumBy f (r ∷ rows) = f r + sumBy f rows
+sumBy f (x ∷ xs) = f x + sumBy f xs
+
+pub sumBy-add : {A : Type 0} (f g : A → ℕ) (xs : List A) → sumBy (λ x. f x + g x) xs ≡ sumBy f xs + sumBy g xs
+unfolding sumBy
+sumBy-add f g [] = refl
+sumBy-add f g (x ∷ xs) = omega (arith, sumBy-add f g xs)
+
+-- The sum is 0 where every number is. (Of no element the number is that of d.)
+pub sumBy-none : {A : Type 0} (f : A → ℕ) (d : A) (xs : List A) → ((j : ℕ) → f (getD xs j d) ≡ 0) → sumBy f xs ≡ 0
+unfolding sumBy
+sumBy-none f d [] none = refl
+sumBy-none f d (x ∷ xs) none = omega (arith, none 0, sumBy-none f d xs (λ j. none (suc j)))
 
 pub sumBy-set : (f : Row → ℕ) (rows : List Row) (i : ℕ) (x : Row) → i < length rows
     → sumBy f (set rows i x) + f (getD rows i noRow) ≡ sumBy f rows + f x
@@ -54,8 +65,3 @@ pub sumBy-append : (f : Row → ℕ) (rows : List Row) (x : Row) → sumBy f (ro
 unfolding sumBy
 sumBy-append f [] x = omega arith
 sumBy-append f (r ∷ rows) x = omega (arith, sumBy-append f rows x)
-
-pub sumBy-none : (f : Row → ℕ) (rows : List Row) → ((j : ℕ) → f (getD rows j noRow) ≡ 0) → sumBy f rows ≡ 0
-unfolding sumBy
-sumBy-none f [] none = refl
-sumBy-none f (r ∷ rows) none = omega (arith, none 0, sumBy-none f rows (λ j. none (suc j)))

@@ -1,8 +1,9 @@
 -- Laws of the ticks that a plan gives to a row: the first tick of a window, one window inside another, and two ticks exchanged.
--- Both halves of demand 3 count with them. Rests on Plan.
+-- Both halves of demand 3 count with them. Rests on Plan and RowNumbers.
 use Prim.Native.Nat.{ℕ, zero, suc, _+_, _-_, _≤_, _<_, zero-le}
 use mathlib.Core.Option.{Option, none, some}
 use mathlib.Core.Path.{_≡_, refl, sym, ap, _∙_}
+use mathlib.Core.Logic.{_≢_}
 use native.Mathlib.Nat.{le-refl, le-of-eq, add-zero, add-suc, suc-add, add-sub-of-le}
 use native.Mathlib.Decide.{decLe, ℕ-discrete}
 use native.Mathlib.Omega.{arith}
@@ -11,15 +12,16 @@ use borrow.Author.Tests.{eqb-true, eq-eqb, ne-eqb}
 use Rattle.rules.specs.Choose.{choose}
 use Rattle.promises.specs.Plan.{Plan, goesTo, ticks}
 use Rattle.rules.proofs.Choose.{by-test}
+use Rattle.promises.proofs.RowNumbers.{same, same-self, same-other}
 
 -- A tick given to a row goes to it, and to no other.
 pub goesTo-own : (i : ℕ) → goesTo i (some i) ≡ 1
-unfolding goesTo choose
-goesTo-own i = rw (eq-eqb i i refl)
+unfolding goesTo same
+goesTo-own i = same-self i
 
-pub goesTo-other : (i k : ℕ) → (k ≡ i → ⊥) → goesTo i (some k) ≡ 0
-unfolding goesTo choose
-goesTo-other i k h = rw (ne-eqb k i h)
+pub goesTo-other : (i k : ℕ) → k ≢ i → goesTo i (some k) ≡ 0
+unfolding goesTo same
+goesTo-other i k h = same-other k i h
 
 goesTo-some : (i : ℕ) (x : Option ℕ) → 1 ≤ goesTo i x → x ≡ some i
 unfolding goesTo

@@ -1,5 +1,5 @@
--- Fact 11: a run's value is at most its last tick. Finished costs are ticks given, and each tick is given once. So the value is
--- at most the greatest deadline, which the packed answer needs. Rests on OnTime and Counting.
+-- A run's value is at most the tick of its end: finished costs are ticks given, and each tick is given once. With End, it is at most
+-- the greatest deadline, which the packed answer needs. Rests on OnTime and Counting.
 use Prim.Native.Nat.{ℕ, suc, _+_, _≤_, zero-le}
 use native.Mathlib.Nat.{le-of-eq, zero-add, add-zero, add-suc, suc-add}
 use native.Mathlib.Omega.{arith}
@@ -7,21 +7,21 @@ use mathlib.Core.Path.{_∙_}
 use mathlib.Core.List.{List, [], _∷_}
 use Rattle.rules.specs.Job.{Job, Proper}
 use Rattle.rules.specs.Picks.{Picks}
-use Rattle.rules.specs.Run.{run, greatestDeadline}
+use Rattle.rules.specs.Run.{run}
 use Rattle.rules.specs.Result.{valueOfRows}
-use Rattle.promises.specs.Lawful.{Lawful}
-use Rattle.promises.specs.Plan.{Plan, ticks, ticksInTime, earnsFrom}
+use Rattle.promises.specs.Plan.{jobOf, Plan, ticks, ticksInTime, earnsFrom}
 use Rattle.promises.specs.RunPlan.{runPlan}
-use Rattle.promises.proofs.End.{run-ends}
-use Rattle.promises.proofs.Counting.{sumOver, counting-all}
-use Rattle.promises.proofs.Earning.{jobOf, earnsRow-le}
-use Rattle.promises.proofs.FirstHalf.{numbers, numbers-distinct}
+use Rattle.promises.specs.Lawful.{Lawful}
+use Rattle.promises.proofs.Sums.{sumBy}
+use Rattle.promises.proofs.RowNumbers.{numbers, numbers-distinct}
+use Rattle.promises.proofs.Counting.{counting-all}
+use Rattle.promises.proofs.Earning.{earnsRow-le}
 use Rattle.promises.proofs.OnTime.{given-ticks, given-in-time, run-earns}
 
 -- A plan whose ticks in time all lie below n earns no more than the ticks below n that it gives to the list's rows.
 earns-below : (q : Plan) (n i : ℕ) (jobs : List Job) → ((k : ℕ) → ticksInTime q (i + k) (jobOf jobs k) ≤ ticks q (i + k) 0 n)
-    → earnsFrom q i jobs ≤ sumOver (λ k. ticks q k 0 n) (numbers i jobs)
-unfolding earnsFrom numbers sumOver
+    → earnsFrom q i jobs ≤ sumBy (λ k. ticks q k 0 n) (numbers i jobs)
+unfolding earnsFrom numbers sumBy
 earns-below q n i [] h = zero-le
 earns-below q n i (j ∷ js) h =
     omega (arith, earnsRow-le q i j, rw add-zero at (h 0), earns-below q n (suc i) js (λ k. rw (add-suc, ← suc-add) at (h (suc k))))
@@ -37,6 +37,3 @@ module _ {p : Picks} (l : Lawful p) (jobs : List Job) (proper : Proper jobs) whe
         earns-below q n 0 jobs (λ k. rw zero-add (le-of-eq (given-in-time l jobs proper k ∙ given-ticks l jobs proper k))),
         counting-all q (numbers 0 jobs) (numbers-distinct 0 jobs) 0 n,
       )
-
-  pub value-by-deadline : valueOfRows (run p jobs .state .rows) ≤ greatestDeadline jobs
-  value-by-deadline = omega (arith, value-by-end, run-ends l jobs proper .byDeadline)

@@ -1,5 +1,5 @@
--- What holds at every point of every run (facts 1 to 6 of the argument), as one record that later modules read: of each
--- row, of the stack, of held value and of room. That every sub-step keeps it is proved in WfKept. Rests on Stack and Steps.
+-- What holds at every point of every run, as one record that later modules read: of each row, of the stack, of held value and of
+-- room. That A, B and C keep it is proved in WfKept, and that D does in WfGiven. Rests on Stack and Steps.
 use Prim.Native.Nat.{ℕ, _+_, _≤_, _<_}
 use native.Mathlib.Omega.{arith}
 use mathlib.Core.Path.{_≡_, refl, sym, ap, subst, _∙_}
@@ -9,7 +9,9 @@ use Rattle.rules.specs.Job.{Job}
 use Rattle.rules.specs.State.{Fate, Row, Proc, State, noRow, rowOf, costOf, deadlineOf, leftOf, waiting, taken, finished, dropped, idle, running}
 use Rattle.promises.specs.Lawful.{Waits}
 use Rattle.promises.proofs.Rows.{at-and-beside, inside, finished-not-waiting}
-use Rattle.promises.proofs.Stack.{same, same-self, same-other, occurs, rowsOf, stackOf, heldBy, Below, below-fits, below-lax, held-covers}
+use Rattle.promises.proofs.Sums.{sumBy}
+use Rattle.promises.proofs.RowNumbers.{same, same-self, same-other, occurs, over-part}
+use Rattle.promises.proofs.Stack.{rowsOf, stackOf, heldBy, Below, below-fits, Lax, below-lax}
 use Rattle.promises.proofs.Steps.{Phase, opening, offering, announcing, deciding}
 
 -- A waiting job is not through, and could still be by its deadline if it ran now: its latest start is at least t.
@@ -115,7 +117,7 @@ waits-not-taken w i e = w .once i ∙ ap ifTaken e
 
 -- While row r runs, the taken rows are r and the delayed ones.
 pub once-running : {ph : Phase} {t r : ℕ} {s : State} → Wf ph t s → s .proc ≡ running r → (j : ℕ) → same j r + occurs j (rowsOf (s .delayed)) ≡ ifTaken (rowOf s j .fate)
-unfolding occurs stackOf
+unfolding sumBy stackOf
 once-running {s = s} w e j = subst (λ (p : Proc). occurs j (stackOf p (s .delayed)) ≡ ifTaken (rowOf s j .fate)) e (w .once j)
 
 pub ifTaken-small : (f : Fate) → ifTaken f ≤ 1
@@ -160,7 +162,7 @@ taken-lax {ph} {t} {r} {s} w e =
     at-and-beside (λ (j : ℕ). rowOf s j .fate ≡ taken → (leastLeft ph ≤ leftOf s j) × (t + leftOf s j ≤ deadlineOf s j)) r
     (λ _. (k .unfinished, omega (arith, below-fits (s .rows) t _ _ (s .delayed) (k .below))))
     (λ j n f.
-    let l : (1 ≤ leftOf s j) × (t + leftOf s j ≤ deadlineOf s j) =
+    let l : Lax (s .rows) t (deadlineOf s r) j =
     below-lax (s .rows) t _ _ (s .delayed) (omega arith) (k .below) j (omega (arith, same-other j r n, once-running w e j, ap ifTaken f)) in
     omega (arith, leastLeft-small ph))
 
@@ -174,9 +176,9 @@ pub taken-cost : {ph : Phase} {t r : ℕ} {s : State} → Wf ph t s → s .proc 
 unfolding ifTaken
 taken-cost {r = r} {s = s} w e =
     at-and-beside (λ (j : ℕ). rowOf s j .fate ≡ taken → costOf s j ≤ costOf s r + s .held) r (λ _. omega arith)
-    (λ j n f. omega (arith, w .held, held-covers (s .rows) (s .delayed) j (omega (arith, same-other j r n, once-running w e j, ap ifTaken f))))
+    (λ j n f. omega (arith, w .held, over-part (λ i. costOf s i) (rowsOf (s .delayed)) j (omega (arith, same-other j r n, once-running w e j, ap ifTaken f))))
 
 -- While nothing runs, no row is taken.
 pub idle-not-taken : {ph : Phase} {t : ℕ} {s : State} → Wf ph t s → s .proc ≡ idle → (j : ℕ) → ifTaken (rowOf s j .fate) ≡ 0
-unfolding occurs rowsOf stackOf
+unfolding sumBy rowsOf stackOf
 idle-not-taken w e j = let d = resting w e .nothingDelayed in sym (w .once j) ∙ cc

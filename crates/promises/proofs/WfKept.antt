@@ -1,23 +1,23 @@
--- That every sub-step of A, B and C keeps Wf, and that D leads from the end of one tick to the opening of the next.
--- Rests on Wf.
+-- That every sub-step of A, B and C keeps Wf: one lemma for each thing that a sub-step may do to the state. Rests on Wf.
 use Prim.Native.Nat.{ℕ, _+_, _-_, _≤_, _<_}
 use native.Mathlib.Omega.{arith}
 use mathlib.Core.Path.{_≡_, refl, sym, ap, subst, _∙_}
 use mathlib.Core.Logic.{_≢_}
 use mathlib.Core.List.{List, [], _∷_, _++_, map}
-use lib.ListN.{length, getD, set, length-map, List·getD-eq-default}
-use lib.Seq.{getD-set-same, getD-append-seam}
+use lib.ListN.{length, getD, length-map, List·getD-eq-default}
+use lib.Seq.{getD-append-seam}
 use Rattle.rules.specs.Job.{Job, Feasible}
 use Rattle.rules.specs.State.{Fate, Row, Proc, Entry, State, noRow, rowOf, deadlineOf, leftOf, laxity, withFate, mark, waiting, taken, finished, dropped, idle, running}
 use Rattle.rules.specs.Announce.{start, preempt, append}
 use Rattle.rules.specs.Finish.{settleFinished, goIdle, resume}
 use Rattle.rules.specs.LatestStarts.{displaced, displace, takeOver, dropRow}
-use Rattle.rules.specs.Give.{oneLess, giveTo, give}
 use Rattle.promises.specs.Lawful.{Waits, Due, IsFirst}
-use Rattle.promises.proofs.Rows.{all-set, set-keeps, Same, same-mark, all-append, same-append, same-beside, getD-displaced, same-displaced}
-use Rattle.promises.proofs.Stack.{same-self, same-other, occurs, rowsOf, stackOf, heldBy, Under, Below, below-keeps, held-keeps, below-fits}
-use Rattle.promises.proofs.Steps.{Phase, Step, NothingDue, opening, offering, announcing, deciding, rests, runsOn, idles, startsFirst, resumes, resumesOffering, starts, preempts, waitsOn, appears, decides, takesOver, isDropped}
-use Rattle.promises.proofs.Wf.{WaitingOk, FateOk, RowOk, fate-ok, ifTaken, OfferWaits, leastLeft, Busy, ProcOk, Wf, resting, busy, waits-inside, waits-not-taken, once-running, leastLeft-small, running-inside, running-not-delayed, delayed-inside, taken-lax, running-taken, idle-not-taken}
+use Rattle.promises.proofs.Rows.{all-set, Same, same-mark, all-append, same-append, getD-displaced, same-displaced}
+use Rattle.promises.proofs.Sums.{sumBy}
+use Rattle.promises.proofs.RowNumbers.{same-self, same-other, occurs}
+use Rattle.promises.proofs.Stack.{rowsOf, stackOf, heldBy, Under, Below, below-keeps, held-keeps, below-fits}
+use Rattle.promises.proofs.Steps.{Phase, opening, offering, announcing, deciding, Step, rests, runsOn, idles, startsFirst, resumes, resumesOffering, starts, preempts, waitsOn, appears, decides, takesOver, isDropped}
+use Rattle.promises.proofs.Wf.{WaitingOk, FateOk, RowOk, fate-ok, ifTaken, OfferWaits, leastLeft, Busy, ProcOk, Wf, resting, busy, waits-inside, waits-not-taken, once-running, leastLeft-small, running-inside, running-not-delayed, delayed-inside, taken-lax, idle-not-taken}
 
 -- The rows after row i has met a fate that suits it.
 mark-ok : (t : ℕ) (rows : List Row) (i : ℕ) (f : Fate) → ((j : ℕ) → RowOk t (getD rows j noRow)) → i < length rows
@@ -45,7 +45,7 @@ module _ {t r : ℕ} {s : State} (w : Wf opening t s) (e : s .proc ≡ running r
       (record { through = z; past = omega arith; onTime = omega arith; enough = omega (arith, w .row r .since) })
 
   settled-once : (j : ℕ) → occurs j (rowsOf (s .delayed)) ≡ ifTaken (rowOf (settleFinished t r s) j .fate)
-  unfolding settleFinished occurs stackOf ifTaken
+  unfolding settleFinished sumBy stackOf ifTaken
   settled-once =
       once-mark (s .rows) r (finished t) (r ∷ rowsOf (s .delayed)) (rowsOf (s .delayed)) (running-inside w e) (once-running w e)
       (running-not-delayed w e)
@@ -59,7 +59,7 @@ pub record Free (t : ℕ) (s : State) : Type 0 where
   pub noneHeld : s .held ≡ 0
 
 pub idle-free : {ph : Phase} {t : ℕ} {s : State} → Wf ph t s → s .proc ≡ idle → Free t s
-unfolding occurs rowsOf stackOf heldBy
+unfolding sumBy rowsOf stackOf
 idle-free {s = s} w e =
     let d : s .delayed ≡ [] = resting w e .nothingDelayed in
     record {
@@ -70,7 +70,7 @@ idle-free {s = s} w e =
     }
 
 pub settled-free : {t r : ℕ} {s : State} → Wf opening t s → s .proc ≡ running r → leftOf s r ≡ 0 → s .delayed ≡ [] → Free t (settleFinished t r s)
-unfolding settleFinished occurs rowsOf heldBy
+unfolding settleFinished sumBy rowsOf
 settled-free {s = s} w e z d =
     record {
       row = settled-row w e z;
@@ -81,7 +81,7 @@ settled-free {s = s} w e z d =
 
 -- A and B: row i runs on a processor that has nothing else.
 start-wf : {t : ℕ} {s : State} → Free t s → (i : ℕ) → Waits (s .rows) i → Wf announcing t (start t i s)
-unfolding start leastLeft occurs rowsOf stackOf heldBy ifTaken
+unfolding start leastLeft sumBy rowsOf stackOf ifTaken
 start-wf {t} {s} f i w =
     let d : s .delayed ≡ [] = f .nothingDelayed in
     let h : i < length (s .rows) = waits-inside (s .rows) i w in
@@ -101,7 +101,7 @@ start-wf {t} {s} f i w =
 
 -- A: nothing is left to run.
 idle-wf : {t : ℕ} {s : State} → Free t s → ((j : ℕ) → Waits (s .rows) j → ⊥) → Wf announcing t (goIdle s)
-unfolding goIdle occurs rowsOf stackOf heldBy
+unfolding goIdle sumBy rowsOf stackOf
 idle-wf {t} {s} f n =
     let d : s .delayed ≡ [] = f .nothingDelayed in
     record {
@@ -116,7 +116,7 @@ idle-wf {t} {s} f n =
 resume-wf : {t r : ℕ} {s : State} {x : Entry} {rest : List Entry} (ph : Phase) → OfferWaits ph (settleFinished t r s .rows)
     → Wf opening t s → s .proc ≡ running r → leftOf s r ≡ 0 → s .delayed ≡ x ∷ rest
     → Wf ph t (resume t x rest (settleFinished t r s))
-unfolding settleFinished resume occurs rowsOf stackOf heldBy
+unfolding settleFinished resume sumBy rowsOf stackOf
 resume-wf {t} {r} {s} {x} {rest} ph o w e z d =
     let k : Below (s .rows) t (deadlineOf s r) (t + s .room + leftOf s r) (x ∷ rest) = subst (Below (s .rows) t _ _) d (busy w e .below) in
     let v : Under (s .rows) t (deadlineOf s r) (t + s .room + leftOf s r) x = k .0 in
@@ -137,7 +137,7 @@ resume-wf {t} {r} {s} {x} {rest} ph o w e z d =
 -- A and B: row i preempts row r. The room that is saved with r is exact for r and below; the new room is cut to fit i.
 preempt-wf : {t r i : ℕ} {s : State} → Wf (offering i) t s → s .proc ≡ running r → deadlineOf s i < deadlineOf s r → leftOf s i ≤ s .room
     → Wf announcing t (preempt t r i s)
-unfolding preempt leastLeft occurs rowsOf stackOf heldBy ifTaken
+unfolding preempt leastLeft sumBy rowsOf stackOf ifTaken
 preempt-wf {t} {r} {i} {s} w e earlier roomy =
     let h : i < length (s .rows) = waits-inside (s .rows) i (w .offer) in
     let k : WaitingOk t (rowOf s i .job) (rowOf s i .left) = fate-ok (w .row i) (w .offer) in
@@ -188,9 +188,10 @@ module _ {t : ℕ} {s : State} (w : Wf announcing t s) (j : Job) (released : j .
       }
 
   append-held : (p : Proc) → s .proc ≡ p → heldBy (append j s .rows) (s .delayed) ≡ heldBy (s .rows) (s .delayed)
-  unfolding append heldBy
+  unfolding append sumBy rowsOf
   append-held idle e = rw (resting w e .nothingDelayed)
-  append-held (running r) e = held-keeps (s .rows) _ (s .delayed) (λ i o. same-append (s .rows) _ i (delayed-inside w e i o))
+  append-held (running r) e =
+      held-keeps (s .rows) (append j s .rows) (s .delayed) (λ i o. same-append (s .rows) _ i (delayed-inside w e i o))
 
   append-wf : Wf (offering (length (s .rows))) t (append j s)
   unfolding append ifTaken
@@ -240,12 +241,12 @@ module _ {t r : ℕ} {s : State} (w : Wf deciding t s) (e : s .proc ≡ running 
       })
 
   takeOver-wf : (i : ℕ) → Due t (s .rows) i → Wf deciding t (takeOver i s)
-  unfolding takeOver displace leastLeft occurs rowsOf stackOf heldBy ifTaken
+  unfolding takeOver displace leastLeft sumBy rowsOf stackOf ifTaken
   takeOver-wf i due =
       let rows : List Row = map displace (s .rows) in
       let h : i < length rows = rw length-map (waits-inside (s .rows) i (due .0)) in
       let k : WaitingOk t (rowOf s i .job) (rowOf s i .left) = fate-ok (w .row i) (due .0) in
-      let l : deadlineOf s i - leftOf s i ≡ t = due .1 in
+      let l : deadlineOf s i - leftOf s i ≡ t = omega (arith, due .1) in
       let m : Same (s .rows) rows i = same-displaced (s .rows) i in
       let n : Same rows (mark i taken rows) i = same-mark rows i taken i in
       record {
@@ -264,7 +265,7 @@ module _ {t r : ℕ} {s : State} (w : Wf deciding t s) (e : s .proc ≡ running 
   unfolding dropRow ifTaken
   drop-wf i due =
       let k : WaitingOk t (rowOf s i .job) (rowOf s i .left) = fate-ok (w .row i) (due .0) in
-      let l : deadlineOf s i - leftOf s i ≡ t = due .1 in
+      let l : deadlineOf s i - leftOf s i ≡ t = omega (arith, due .1) in
       let same-rows : (j : ℕ) → Same (s .rows) (mark i (dropped t) (s .rows)) j = same-mark (s .rows) i (dropped t) in
       let m : Same (s .rows) (mark i (dropped t) (s .rows)) r = same-rows r in
       let b : Busy deciding t s r = busy w e in
@@ -284,68 +285,6 @@ module _ {t r : ℕ} {s : State} (w : Wf deciding t s) (e : s .proc ≡ running 
             (λ j _. refl);
         held = w .held ∙ sym (held-keeps (s .rows) (mark i (dropped t) (s .rows)) (s .delayed) (λ j _. same-rows j));
       }
-
--- D: nothing that waits was due, so everything can still start at the next tick.
-later-fate : (t : ℕ) (f : Fate) (j : Job) (left : ℕ) → (f ≡ waiting → j .deadline - left ≡ t → ⊥) → FateOk t f j left → FateOk (t + 1) f j left
-later-fate t waiting j left n k = let m : j .deadline - left ≢ t = n refl in record { unfinished = k .unfinished; startable = omega arith }
-later-fate t taken j left n k = tt
-later-fate t (finished u) j left n k = omega arith
-later-fate t (dropped u) j left n k = omega arith
-
-module _ {t : ℕ} {s : State} (w : Wf deciding t s) (noneDue : NothingDue t (s .rows)) where
-  later-row : (j : ℕ) → RowOk (t + 1) (rowOf s j)
-  later-row j =
-      let k : RowOk t (rowOf s j) = w .row j in
-      record {
-        within = k .within;
-        window = k .window;
-        since = omega arith;
-        fate = later-fate t (rowOf s j .fate) (rowOf s j .job) (rowOf s j .left) (λ f l. noneDue j (f, l)) (k .fate);
-      }
-
-  giveTo-wf : (p : Proc) → s .proc ≡ p → Wf opening (t + 1) (giveTo p t s)
-  unfolding giveTo oneLess leastLeft
-  giveTo-wf idle e =
-      record {
-        proc = subst (ProcOk opening (t + 1) s) (sym e) (record { nothingDelayed = resting w e .nothingDelayed; nothingWaits = resting w e .nothingWaits });
-        offer = tt;
-        row = later-row;
-        once = w .once;
-        held = w .held;
-      }
-  giveTo-wf (running r) e =
-      let h : r < length (s .rows) = running-inside w e in
-      let k : RowOk (t + 1) (rowOf s r) = later-row r in
-      let b : Busy deciding t s r = busy w e in
-      let u : 1 ≤ leftOf s r = b .unfinished in
-      let x : Row = oneLess (rowOf s r) in
-      let at : getD (set (s .rows) r x) r noRow ≡ x = getD-set-same (s .rows) r x noRow h in
-      let left : getD (set (s .rows) r x) r noRow .left ≡ leftOf s r - 1 = ap (λ (y : Row). y .left) at in
-      let same-rows : (j : ℕ) → 1 ≤ occurs j (rowsOf (s .delayed)) → Same (s .rows) (set (s .rows) r x) j =
-      λ j o. same-beside (s .rows) r x j (λ q. let z : occurs j (rowsOf (s .delayed)) ≡ 0 = rw q (running-not-delayed w e) in omega arith) in
-      record {
-        proc =
-            subst (ProcOk opening (t + 1) (giveTo (running r) t s)) (sym e)
-            (record {
-              unfinished = omega arith;
-              below =
-                  below-keeps (s .rows) (set (s .rows) r x) t (t + 1) _ _ _ _ (s .delayed) (omega arith)
-                  (sym (ap (λ (y : Row). y .job .deadline) at))
-                  (omega arith)
-                  same-rows
-                  (b .below);
-            });
-        offer = tt;
-        row =
-            all-set (λ (j : ℕ) (y : Row). RowOk (t + 1) y) (s .rows) r x h
-            (record { within = omega arith; window = k .window; since = omega (arith, w .row r .since); fate = subst (λ (f : Fate). FateOk (t + 1) f (rowOf s r .job) (rowOf s r .left - 1)) (sym (running-taken w e)) tt })
-            (λ j n. later-row j);
-        once = λ j. w .once j ∙ sym (ap ifTaken (set-keeps (λ (y : Row). y .fate) (s .rows) r x refl j));
-        held = w .held ∙ sym (held-keeps (s .rows) (set (s .rows) r x) (s .delayed) same-rows);
-      }
-
-pub give-wf : {t : ℕ} {s : State} → Wf deciding t s → NothingDue t (s .rows) → Wf opening (t + 1) (give t s)
-give-wf {s = s} w noneDue = giveTo-wf w noneDue (s .proc) refl
 
 -- The state stays, and the phase moves on.
 same-state : {ph : Phase} {t : ℕ} {s : State} (ph′ : Phase) → OfferWaits ph′ (s .rows) → Wf ph t s → ProcOk ph′ t s (s .proc) → Wf ph′ t s

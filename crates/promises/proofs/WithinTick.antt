@@ -17,7 +17,7 @@ use Rattle.rules.specs.LatestStarts.{runningCost, decide, ifFound, decideAll}
 use Rattle.rules.specs.Run.{decided}
 use Rattle.promises.specs.Lawful.{Due, IsFirst, IsNext, Lawful}
 use Rattle.rules.proofs.Choose.{by-test, by-both}
-use Rattle.promises.proofs.Steps.{Phase, Step, NothingDue, opening, offering, announcing, deciding, rests, runsOn, idles, startsFirst, resumes, resumesOffering, starts, preempts, waitsOn, appears, decides, takesOver, isDropped}
+use Rattle.promises.proofs.Steps.{Phase, opening, offering, announcing, deciding, Step, rests, runsOn, idles, startsFirst, resumes, resumesOffering, starts, preempts, waitsOn, appears, decides, takesOver, isDropped, NothingDue}
 use Rattle.promises.proofs.Wf.{Wf, resting}
 use Rattle.promises.proofs.WfKept.{wf-step}
 

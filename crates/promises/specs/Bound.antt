@@ -1,19 +1,16 @@
 -- What any plan earns at most, as a number that a run itself shows: the costs of the rows that it finished before their
 -- deadline, and its counted ticks. That no plan earns more, and that this is at most 4 × value, is proved in proofs/FourTimes.
--- Rests on the tick rules.
+-- Rests on RunPlan and the tick rules.
 use Prim.Native.Nat.{ℕ, zero, suc, _+_, max}
 use mathlib.Core.List.{List, [], _∷_}
 use mathlib.Core.Bool.{Bool, true, false}
 use lib.Dec.{ltb}
 use Rattle.rules.specs.Choose.{choose}
 use Rattle.rules.specs.Job.{Job}
-use Rattle.rules.specs.State.{Fate, Row, Proc, State, waiting, taken, finished, dropped, idle, running}
+use Rattle.rules.specs.State.{Fate, Row, Proc, waiting, taken, finished, dropped, idle, running}
 use Rattle.rules.specs.Picks.{Picks}
-use Rattle.rules.specs.Run.{decided, before, releasedAt, greatestDeadline, run}
-
--- The state after C of tick s, for any announcements.
-abbrev pub decidedAt : Picks → (ℕ → List Job) → ℕ → State
-decidedAt p released s = decided p s (released s) (before p released s)
+use Rattle.rules.specs.Run.{releasedAt, greatestDeadline, run}
+use Rattle.promises.specs.RunPlan.{decidedAt}
 
 -- The deadline of a dropped row, else 0.
 unfoldable pub droppedDeadline : Fate → Job → ℕ

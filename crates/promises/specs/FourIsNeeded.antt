@@ -1,13 +1,10 @@
 -- The 4 of demand 3 cannot be made 3.9: a list of thirteen jobs, and a plan for it that earns 1,256 where the run's value is 319.
--- That it does is proved in proofs/FourIsNeeded. Rests on Plan and the rules' Job.
-use Prim.Native.Nat.{ℕ}
+-- That it does is proved in proofs/FourIsNeeded. Rests on SmallPlans.
 use mathlib.Core.List.{List, [], _∷_}
-use mathlib.Core.Option.{none, some}
-use lib.Dec.{ltb}
-use Rattle.rules.specs.Choose.{choose}
 use Rattle.rules.specs.Job.{Job}
 use Rattle.rules.specs.SmallRuns.{job}
 use Rattle.promises.specs.Plan.{Plan}
+use Rattle.promises.specs.SmallPlans.{upTo, inShares}
 
 -- Jobs 1, 3 to 11 are a chain without slack: each is released at the last tick of the one before and costs one more than twice
 -- as much, so it takes over. Beside each stands a filler without slack that costs one tick less: it is dropped. So is job 13,
@@ -21,21 +18,6 @@ chain =
     job 9 142 159 301 ∷ job 10 142 158 300 ∷
     job 11 300 319 619 ∷ job 12 300 318 618 ∷
     job 13 618 638 1256 ∷ []
-
--- Ticks not yet planned, up to before this tick, go to this row.
-pub record Share : Type 0 where
-  pub before : ℕ
-  pub row : ℕ
-
-abbrev pub upTo : ℕ → ℕ → Share
-upTo b i = record { before = b; row = i }
-
--- The plan that goes through the shares in order.
-unfoldable pub inShares : List Share → Plan
-inShares [] s = none
-inShares (x ∷ xs) s =
-    let on = inShares xs s in
-    choose (ltb s (x .before)) (some (x .row)) on
 
 -- The plan that finishes every filler and the last job. (Rows count from 0.)
 abbrev pub fillers : Plan

@@ -3,8 +3,14 @@ use Prim.Native.Nat.{ℕ, zero, suc, _+_, _-_}
 use mathlib.Core.List.{List, [], _∷_}
 use mathlib.Core.Option.{Option, none, some}
 use lib.Dec.{leb, eqb}
+use lib.ListN.{getD}
 use Rattle.rules.specs.Choose.{choose}
 use Rattle.rules.specs.Job.{Job}
+use Rattle.rules.specs.State.{noRow}
+
+-- The job of row i of a list, rows counting from 0; where there is none, one of no cost and without a window.
+abbrev pub jobOf : List Job → ℕ → Job
+jobOf jobs i = getD jobs i (noRow .job)
 
 -- A plan gives each tick to at most one row.
 abbrev pub Plan : Type 0

@@ -4,7 +4,7 @@ use Prim.Native.Nat.{ℕ}
 use mathlib.Core.List.{List}
 use mathlib.Core.Option.{Option, none, some}
 use Rattle.rules.specs.Job.{Job}
-use Rattle.rules.specs.State.{Proc, idle, running}
+use Rattle.rules.specs.State.{Proc, State, idle, running}
 use Rattle.rules.specs.Picks.{Picks}
 use Rattle.rules.specs.Run.{decided, before, releasedAt}
 use Rattle.promises.specs.Plan.{Plan}
@@ -14,6 +14,10 @@ unfoldable pub runningRow : Proc → Option ℕ
 runningRow idle = none
 runningRow (running r) = some r
 
+-- The state after steps A, B and C of tick t, for any announcements.
+abbrev pub decidedAt : Picks → (ℕ → List Job) → ℕ → State
+decidedAt p released t = decided p t (released t) (before p released t)
+
 -- Tick t goes to the row that step D gives it to: the one that runs after step C. While idle it goes to none.
 unfoldable pub runPlan : Picks → List Job → Plan
-runPlan p jobs t = runningRow (decided p t (releasedAt jobs t) (before p (releasedAt jobs) t) .proc)
+runPlan p jobs t = runningRow (decidedAt p (releasedAt jobs) t .proc)
