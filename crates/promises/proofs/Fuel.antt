@@ -125,7 +125,7 @@ decide_all_ends l {t} {s = s} w m zero h =
     λ j due. omega (arith, due_turn t c s.rows j due, sum_by_part (turn t c) s.rows j (waits_inside s.rows j due.0))
 decide_all_ends {p} l {t} {s = s} w m (suc k) h =
     if_found_lem (λ (s' : State). NothingDue t s'.rows) (λ i. decide_all p k t (decide t i s)) (λ n. n)
-    (λ i due. decide_all_ends l w (decide_met l w i due m) k (omega (arith, decide_falls (met_wf w m) i due s.proc refl)))
+    (λ i due. decide_all_ends l {s = decide t i s} w (decide_met l w i due m) k (omega (arith, decide_falls (met_wf w m) i due s.proc refl)))
     (p.next t s.rows)
     (l.next t s.rows)
 

@@ -65,7 +65,7 @@ module _ (rows : List Row) (t : ℕ) where
       → Below rows t (get_or rows r no_row).job.deadline b es → Tight rows base r (rows_of es)
   unfolding rows_of
   below_tight base r b [] e k = top_tight base r [] (omega arith)
-  below_tight base r b (x ∷ es) e k = under_tight base r b x (rows_of es) e k.0 (below_tight _ x.row _ es refl k.1)
+  below_tight base r b (x ∷ es) e k = under_tight base r b x (rows_of es) e k.0 (below_tight (x.since + x.room) x.row (x.since + x.room + (get_or rows x.row no_row).left) es refl k.1)
 
 -- No more room would do for a running job r and what is below it.
 pub room_tight : {ph : Phase} {t r : ℕ} {s : State} → Wf ph t s → s.proc ≡ running r → Tight s.rows (t + s.room) r (rows_of s.delayed)

@@ -50,7 +50,8 @@ below_keeps rows rows' t t' d d' b b' (e ∷ es) h p q same_rows k =
     let u : Same rows rows' e.row = same_rows e.row (omega (arith, same_self e.row)) in
     let v : Under rows t d b e = k.0 in (
       record { exact = omega arith; put = omega arith; unfinished = omega arith; later = omega arith },
-      below_keeps rows rows' t t' _ _ _ _ es h (omega arith) (omega arith) (λ j o. same_rows j (omega arith)) k.1,
+      below_keeps rows rows' t t' (get_or rows e.row no_row).job.deadline (get_or rows' e.row no_row).job.deadline
+          (e.since + e.room + (get_or rows e.row no_row).left) (e.since + e.room + (get_or rows' e.row no_row).left) es h (omega arith) (omega arith) (λ j o. same_rows j (omega arith)) k.1,
     )
 
 pub held_keeps : (rows rows' : List Row) (es : List Entry) → ((j : ℕ) → 1 ≤ occurs j (rows_of es) → Same rows rows' j)
@@ -75,4 +76,9 @@ below_lax rows t d b [] h k = λ j o. absurd (omega arith)
 below_lax rows t d b (e ∷ es) h k =
     each_row (Lax rows t d) e.row (rows_of es)
     (omega (arith, k.0, below_fits rows t _ _ es k.1))
-    (λ j o. omega (arith, k.0, below_lax rows t _ _ es (omega (arith, k.0)) k.1 j o))
+    (λ j o. omega (
+      arith,
+      k.0,
+      below_lax rows t (get_or rows e.row no_row).job.deadline (e.since + e.room + (get_or rows e.row no_row).left) es
+          (omega (arith, k.0)) k.1 j o,
+    ))

@@ -7,11 +7,12 @@ use mathlib.Core.Logic.{◌≢◌}
 use mathlib.Core.Option.{Option, none, some}
 use mathlib.Core.List.{List, [], ◌∷◌}
 use lib.Dec.{leb, ltb, eqb}
+use lib.ListN.{length}
 use borrow.Author.Tests.{ltb-true, ltb-false, leb-true, leb-false, eqb-true, eqb-false, lt-ltb}
 use Rattle.rules.specs.Job.{Job, Feasible}
 use Rattle.rules.specs.State.{Proc, Entry, State, cost_of, deadline_of, left_of, idle, running}
 use Rattle.rules.specs.Picks.{Picks}
-use Rattle.rules.specs.Announce.{offer_to, announce}
+use Rattle.rules.specs.Announce.{offer_to, offer, append, announce}
 use Rattle.rules.specs.Finish.{settle_finished, resume, offer_earlier, start_first, run_next, finish_row, finish_of, finish}
 use Rattle.rules.specs.LatestStarts.{running_cost, decide, if_found, decide_all}
 use Rattle.rules.specs.Run.{decided}
@@ -93,7 +94,7 @@ module _ {p : Picks} (l : Lawful p) {t : ℕ} {opened : State} (w : Wf opening t
   announce_met : {s : State} (js : List Job) → Timely t js → Met t opened announcing s → Met t opened announcing (announce t js s)
   unfolding announce
   announce_met [] k m = m
-  announce_met {s} (j ∷ js) k m = announce_met js k.2 (offer_to_met _ refl (then m (appears j k.0 k.1)))
+  announce_met {s} (j ∷ js) k m = announce_met {s = offer t (length s.rows) (append j s)} js k.2 (offer_to_met _ refl (then m (appears j k.0 k.1)))
 
   decide_for_met : {s : State} (i : ℕ) → Due t s.rows i → (pr : Proc) → s.proc ≡ pr → Met t opened deciding s → Met t opened deciding (decide t i s)
   unfolding decide running_cost
@@ -112,7 +113,7 @@ module _ {p : Picks} (l : Lawful p) {t : ℕ} {opened : State} (w : Wf opening t
   decide_all_met zero m = m
   decide_all_met {s} (suc k) m =
       if_found_lem (Met t opened deciding) (λ i. decide_all p k t (decide t i s)) (λ _. m)
-      (λ i due. decide_all_met k (decide_met i due m)) (p.next t s.rows) (l.next t s.rows)
+      (λ i due. decide_all_met {s = decide t i s} k (decide_met i due m)) (p.next t s.rows) (l.next t s.rows)
 
   -- What C begins with is met.
   pub announced_met : (js : List Job) → Timely t js → Met t opened deciding (announce t js (finish p t opened))
