@@ -1,4 +1,6 @@
 // Big-endian numbers of two and four bytes: read from a byte slice, and laid into one. The images are made of these.
+#![tactic(auto)]
+
 ghost use Rattle.std.specs.Prelude.{◌≡◌, [], ◌∷◌, ◌+◌, ◌≤◌, ◌<◌, length};
 ghost use Rattle.fields.specs.Fields.{be2, be4, bytes2, bytes4, laid};
 
@@ -10,6 +12,7 @@ fn wide(x: u8) -> u32
 }
 
 // The number of two bytes at `at`.
+#[tactic(auto, unfolding(crate::specs::Fields::be2))]
 pub fn get2(s: &[u8], at: usize) -> u32
     requires { at + 2 ≤ length s.now }
     ensures { result ≡ be2 s.now at }
@@ -18,6 +21,7 @@ pub fn get2(s: &[u8], at: usize) -> u32
 }
 
 // The number of four bytes at `at`.
+#[tactic(auto, unfolding(crate::specs::Fields::be4))]
 pub fn get4(s: &[u8], at: usize) -> u32
     requires { at + 4 ≤ length s.now }
     ensures { result ≡ be4 s.now at }
@@ -26,6 +30,7 @@ pub fn get4(s: &[u8], at: usize) -> u32
 }
 
 // Lays one byte into d at `at`.
+#[tactic(auto, using(crate::proofs::Laws::lay1))]
 pub fn put1(d: &mut [u8], at: usize, v: u8)
     requires { at + 1 ≤ length d.old }
     ensures { d.new ≡ laid d.old at (v ∷ []) }
@@ -34,6 +39,7 @@ pub fn put1(d: &mut [u8], at: usize, v: u8)
 }
 
 // Lays a number's two bytes into d from `at` on.
+#[tactic(auto, using(crate::proofs::Laws::lay2))]
 pub fn put2(d: &mut [u8], at: usize, v: u32)
     requires { at + 2 ≤ length d.old }
     ensures { d.new ≡ laid d.old at (bytes2 v) }
@@ -43,6 +49,7 @@ pub fn put2(d: &mut [u8], at: usize, v: u32)
 }
 
 // Lays a number's four bytes into d from `at` on.
+#[tactic(auto, using(crate::proofs::Laws::lay4))]
 pub fn put4(d: &mut [u8], at: usize, v: u32)
     requires { at + 4 ≤ length d.old }
     ensures { d.new ≡ laid d.old at (bytes4 v) }

@@ -3,7 +3,7 @@
 use mathlib.Core.Path.{◌≡◌, refl}
 use mathlib.Core.List.{List, map}
 use Rattle.rules.specs.Picks.{document}
-use Rattle.rules.specs.Result.{Result, run_result}
+use Rattle.rules.specs.Result.{run_result}
 use Rattle.rules.specs.SmallRuns.{SmallRun, small_runs}
 use Rattle.rules.specs.FurtherRuns.{further_runs}
 use Rattle.rules.proofs.Computed.{computed}

@@ -2,7 +2,7 @@
 use Rattle.std.specs.Prelude.{ℕ, ◌+◌, ◌-◌, min, List, [], ◌∷◌, ◌++◌, ◌&&◌, ltb, leb, length}
 use Rattle.rules.specs.Choose.{choose}
 use Rattle.rules.specs.Job.{Job}
-use Rattle.rules.specs.State.{Row, Proc, idle, running, State, waiting, taken, row_of, cost_of, deadline_of, left_of, laxity, mark}
+use Rattle.rules.specs.State.{Proc, idle, running, State, waiting, taken, row_of, cost_of, deadline_of, left_of, laxity, mark}
 
 -- Row i runs; room is its laxity. Nothing is delayed whenever this is done, so held value and delayed stay as they are.
 unfoldable pub start : ℕ → ℕ → State → State

@@ -1,5 +1,5 @@
 -- Step C, latest starts: while some waiting job has latest start t, it takes over or is dropped. Rests on State and Picks.
-use Rattle.std.specs.Prelude.{ℕ, zero, suc, ◌+◌, ◌*◌, List, [], map, ltb, length}
+use Rattle.std.specs.Prelude.{ℕ, zero, suc, ◌+◌, ◌*◌, [], map, ltb, length}
 use Rattle.std.proofs.Math.Option.{Option, none, some}
 use Rattle.rules.specs.Choose.{choose}
 use Rattle.rules.specs.State.{Fate, waiting, taken, finished, dropped, Row, Proc, idle, running, State, cost_of, with_fate, mark}

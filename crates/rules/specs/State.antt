@@ -1,6 +1,6 @@
 -- The state of a run: the rows announced so far, the processor, room, held value, the delayed jobs and the stretches.
 -- It knows nothing of rows to come. Rests on Job.
-use Rattle.std.specs.Prelude.{ℕ, ◌+◌, ◌-◌, List, [], Bool, true, false, get_or, set}
+use Rattle.std.specs.Prelude.{ℕ, ◌-◌, List, [], Bool, true, false, get_or, set}
 use Rattle.rules.specs.Job.{Job}
 
 -- What has become of an announced row. Taken means that it runs or is delayed.
