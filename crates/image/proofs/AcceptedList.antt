@@ -13,7 +13,7 @@ use Rattle.image.specs.Rows.{name_at, job_at}
 use Rattle.image.specs.Refusals.{row_count, row_bytes, list_answer}
 use Rattle.image.specs.Calls.{jobs_of}
 use Rattle.image.specs.Accepted.{AcceptedJobs, job_of}
-use Rattle.image.proofs.Answers.{Accepted, list_accepted}
+use Rattle.image.proofs.Answers.{list_accepted}
 use Rattle.image.proofs.GoodRows.{Good, all_good, other_names, accepted_proper, jobs_length, jobs_at}
 
 -- Two bytes say at most 65,535.

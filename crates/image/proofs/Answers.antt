@@ -62,3 +62,7 @@ rows_accepted rs e =
     let p5 = passed (not (eqb (length rs % 14) 0)) 5 _ (omega arith) p4.ok in
     let rest : length rs % 14 ≡ 0 = eqb-true _ _ (not-false _ p5.unmet) in
     record { few = ltb-false _ _ p4.unmet; whole = omega arith; rows = p5.ok }
+
+-- An answer that is the same has the same number: past the first test of a call, the definition's answer is 0 too.
+pub number_0 : {a b : Answer} → a ≡ b → a.number ≡ 0 → b.number ≡ 0
+number_0 e h = ap (λ (x : Answer). x.number) (sym e) ∙ h

@@ -1,22 +1,20 @@
 -- What accepted rows are: each row that meets no refusal, told in numbers, and the jobs of such rows. Rests on Refusals.
 use mathlib.Core.Path.{◌≡◌, refl, sym, ap, subst, ◌∙◌}
-use mathlib.Core.List.{List, [], ◌∷◌}
+use mathlib.Core.List.{List}
 use mathlib.Core.Bool.{Bool, true, false, ◌||◌, true≢false}
-use Prim.Native.Nat.{ℕ, zero, suc, ◌+◌, ◌*◌, ◌-◌, ◌≤◌, ◌<◌}
+use Prim.Native.Nat.{ℕ, zero, suc, ◌+◌, ◌-◌, ◌≤◌, ◌<◌}
 use mathlib.Core.Logic.{⊎_elim}
 use native.Mathlib.Nat.{le_of_suc-le-suc, eq-or-lt_of_le}
 use native.Mathlib.Numerals.{add-one}
 use native.Mathlib.Omega.{arith}
 use lib.Dec.{ltb, eqb}
-use lib.ListN.{length, get_or}
-use borrow.Author.Tests.{ltb-false, eqb-false, eq-eqb, ne_eqb, eqb-true}
-use Rattle.fields.proofs.Laws.{Bytes}
+use lib.ListN.{length}
+use borrow.Author.Tests.{ltb-false, eqb-false, eqb-true}
 use Rattle.rules.specs.Choose.{choose}
-use Rattle.rules.specs.Job.{Job, Feasible, ProperFrom, Proper}
+use Rattle.rules.specs.Job.{ProperFrom, Proper}
 use Rattle.image.specs.Rows.{name_at, release_at, cost_at, deadline_at, job_at, jobs_from}
-use Rattle.image.specs.Refusals.{refused, accepted, deadline_limit, named, release_before, row_number, row_fault, rows_from}
+use Rattle.image.specs.Refusals.{refused, deadline_limit, named, release_before, row_number, row_fault, rows_from}
 use Rattle.image.specs.Accepted.{job_of}
-use Rattle.image.specs.declared.answer.Answer.{Answer}
 
 -- A test whose number was not given was not met.
 record Unmet (b : Bool) (rest : ℕ) : Type 0 where

@@ -6,7 +6,7 @@ use lib.ListN.{length, drop}
 use borrow.Author.Tests.{eq-eqb, ne_eqb, lt-ltb, le-ltb}
 use Rattle.rules.specs.Choose.{choose}
 use Rattle.image.specs.Refusals.{refused, accepted}
-use Rattle.image.specs.Calls.{Called, written, judged}
+use Rattle.image.specs.Calls.{written, judged}
 use Rattle.image.specs.declared.answer.Answer.{Answer}
 
 module _ (v : ℕ) (w d : List ℕ) where

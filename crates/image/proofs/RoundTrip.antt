@@ -1,9 +1,8 @@
 -- Nothing is lost: writing what was read gives the image again, and reading what was written gives the rows again.
 -- Rests on Answers and the fields' laws.
 use mathlib.Core.Path.{◌≡◌, refl, sym, ap, ◌∙◌}
-use mathlib.Core.List.{List, [], ◌∷◌, ◌++◌}
-use mathlib.Core.Bool.{not}
-use Prim.Native.Nat.{ℕ, ◌+◌, ◌*◌, ◌-◌, ◌/◌, ◌%◌, ◌≤◌, ◌<◌}
+use mathlib.Core.List.{List, ◌∷◌, ◌++◌}
+use Prim.Native.Nat.{ℕ, ◌+◌, ◌*◌, ◌-◌, ◌/◌, ◌%◌, ◌≤◌}
 use native.Mathlib.Omega.{arith}
 use lib.ListN.{length, get_or, drop, length-drop}
 use lib.Seq.{drop-cons}
@@ -11,11 +10,11 @@ use borrow.Author.Tests.{eq-eqb, le-ltb}
 use Rattle.rules.specs.Choose.{choose}
 use Rattle.fields.specs.Fields.{be2, be4, bytes2, bytes4}
 use Rattle.fields.proofs.Laws.{Bytes, be2-bytes2, be4-bytes4, bytes2-be2, bytes4-be4}
-use Rattle.image.specs.Refusals.{accepted, row_limit, row_count, row_bytes, rows_from, list_answer, rows_answer}
-use Rattle.image.specs.Calls.{Called, image_of, read_call, write_call}
+use Rattle.image.specs.Refusals.{accepted, row_limit, row_count, row_bytes, list_answer, rows_answer}
+use Rattle.image.specs.Calls.{image_of, read_call, write_call}
 use Rattle.image.proofs.Outcomes.{done}
 use Rattle.image.proofs.Laying.{image_length}
-use Rattle.image.proofs.Answers.{Accepted, list_accepted, AcceptedRows, rows_accepted}
+use Rattle.image.proofs.Answers.{list_accepted, rows_accepted}
 
 module _ (s : List ℕ) (e : (list_answer s).number ≡ 0) where
   -- An accepted image's rows are as many as it says.

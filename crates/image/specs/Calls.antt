@@ -1,6 +1,6 @@
 -- What a call answers and what its buffer holds afterwards, for accepted and refused input alike; and the jobs of a list.
 -- Rests on Refusals.
-use Rattle.std.specs.Prelude.{ℕ, ◌+◌, ◌/◌, List, [], ◌∷◌, ◌++◌, ltb, eqb, length, drop}
+use Rattle.std.specs.Prelude.{ℕ, ◌+◌, ◌/◌, List, ◌∷◌, ◌++◌, ltb, eqb, length, drop}
 use Rattle.fields.specs.Fields.{bytes2, bytes4}
 use Rattle.rules.specs.Choose.{choose}
 use Rattle.rules.specs.Job.{Job}

@@ -1,6 +1,6 @@
 -- What each refusal number is given exactly for, in document 01's order, and so the first refusal of any byte string.
 -- Number 0 means accepted. Rests on Rows.
-use Rattle.std.specs.Prelude.{ℕ, zero, suc, ◌+◌, ◌*◌, ◌-◌, ◌/◌, ◌%◌, List, Bool, true, false, not, ◌||◌, ltb, eqb, length, get_or, drop}
+use Rattle.std.specs.Prelude.{ℕ, zero, suc, ◌+◌, ◌*◌, ◌-◌, ◌/◌, ◌%◌, List, Bool, false, not, ◌||◌, ltb, eqb, length, get_or, drop}
 use Rattle.fields.specs.Fields.{be2, be4}
 use Rattle.rules.specs.Choose.{choose}
 use Rattle.image.specs.Rows.{name_at, release_at, cost_at, deadline_at}

@@ -1,5 +1,7 @@
 // List images: `check` says whether a byte string is an accepted list, `read` gives its rows, `write` makes an image of rows.
 // None has a `requires`: what is not a list is refused by number, and a refused call changes no byte.
+#![tactic(auto)]
+
 mod answer;
 mod list;
 mod rows;

@@ -7,6 +7,7 @@ use crate::answer::{Answer, accepted, refused};
 use crate::rows::check_rows;
 
 // Whether a byte string is an accepted list, or why not.
+#[tactic(auto, using(fields::proofs::Laws::rest_whole), unfolding(crate::specs::Refusals::list_answer, rules::specs::Choose::choose))]
 pub fn check(list: &[u8]) -> Answer
     ensures { result ≡ list_answer list.now }
 {
@@ -31,6 +32,7 @@ pub fn check(list: &[u8]) -> Answer
 }
 
 // Whether bytes are the rows of an accepted list, or why not.
+#[tactic(auto, unfolding(crate::specs::Refusals::rows_answer, rules::specs::Choose::choose))]
 fn check_raw(rows: &[u8]) -> Answer
     ensures { result ≡ rows_answer rows.now }
 {
@@ -61,6 +63,7 @@ pub fn read(list: &[u8], rows: &mut [u8]) -> Answer
 }
 
 // Lays the image of rows into a buffer that has room for it: header first, then the rows.
+#[tactic(auto, using(crate::proofs::Laying::image_laid))]
 fn lay_image(rows: &[u8], list: &mut [u8])
     requires { (7 + length rows.now ≤ length list.old) × (length rows.now ≤ 896) }
     ensures { list.new ≡ image_of rows.now ++ drop (7 + length rows.now) list.old }

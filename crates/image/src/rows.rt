@@ -20,6 +20,7 @@ fn named(rs: &[u8], x: u32, k: usize) -> bool
 }
 
 // The release of the row before row i, 0 before the first.
+#[tactic(auto, using(crate::proofs::Searches::before_first, crate::proofs::Searches::before_next))]
 fn release_before(rs: &[u8], i: usize) -> u32
     requires { 14 * i ≤ length rs.now }
     ensures { result ≡ release_before_def rs.now i }
@@ -31,6 +32,7 @@ fn release_before(rs: &[u8], i: usize) -> u32
 }
 
 // The first of the refusals 6 to 11 that a row with these numbers meets, 0 if none.
+#[tactic(auto, unfolding(crate::specs::Refusals::row_number, rules::specs::Choose::choose))]
 fn number_of(name: u32, taken: bool, release: u32, cost: u32, deadline: u32, before: u32) -> u8
     ensures { result ≡ row_number name taken release cost deadline before }
 {
@@ -59,6 +61,7 @@ fn number_of(name: u32, taken: bool, release: u32, cost: u32, deadline: u32, bef
 }
 
 // The number of row i.
+#[tactic(auto, unfolding(crate::specs::Refusals::row_fault))]
 fn row_fault(rs: &[u8], i: usize) -> u8
     requires { 14 * (i + 1) ≤ length rs.now }
     ensures { result ≡ row_fault rs.now i }
@@ -74,6 +77,7 @@ fn row_fault(rs: &[u8], i: usize) -> u8
 }
 
 // The answer for n rows, from first to last.
+#[tactic(auto, using(crate::proofs::Searches::rows_on, crate::proofs::Searches::rows_stop, crate::proofs::Searches::rows_end))]
 pub(crate) fn check_rows(rs: &[u8], n: usize) -> Answer
     requires { (14 * n ≤ length rs.now) × (n < 65536) }
     ensures { result ≡ rows_from rs.now n 0 }
