@@ -2,7 +2,7 @@
 use mathlib.Core.Path.{◌≡◌}
 use Prim.Native.Nat.{ℕ, ◌≤◌, ◌<◌}
 use native.Mathlib.Omega.{arith}
-use borrow.Author.Tests.{le-leb, lt-leb, eq-eqb, ne_eqb}
+use borrow.Author.Tests.{le-leb, lt-leb, ne_eqb}
 use Rattle.rules.specs.Choose.{choose}
 use Rattle.sky.specs.Kind.{kind_of}
 
@@ -11,9 +11,9 @@ module _ (n : ℕ) where
   unfolding kind_of choose
   image_fault l h = rw (le-leb 1 n l, le-leb n 5 h)
 
-  pub row_fault_lem : 6 ≤ n → n ≤ 11 → 2 ≡ kind_of n
+  pub row_fault : 6 ≤ n → n ≤ 11 → 2 ≡ kind_of n
   unfolding kind_of choose
-  row_fault_lem l h = simp (le-leb 1 n (omega arith), lt-leb n 5 l, le-leb 6 n l, le-leb n 11 h)
+  row_fault l h = simp (le-leb 1 n (omega arith), lt-leb n 5 l, le-leb 6 n l, le-leb n 11 h)
 
   pub room : n ≡ 12 → 3 ≡ kind_of n
   unfolding kind_of choose

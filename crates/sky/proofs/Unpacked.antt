@@ -1,10 +1,9 @@
 -- The four parts of a packed answer do not overlap: each is read off the number again, for every answer that a call can
 -- give. Rests on Packed and on what image says of its answers.
-use mathlib.Core.Path.{◌≡◌, sym}
+use mathlib.Core.Path.{◌≡◌}
 use mathlib.Core.List.{List}
 use Prim.Native.Nat.{ℕ, ◌/◌, ◌%◌, ◌^◌, ◌<◌}
 use native.Mathlib.Omega.{arith}
-use lib.Dec.{eqb}
 use lib.ListN.{length, length-drop}
 use borrow.Author.Tests.{eqb-true}
 use Rattle.rules.proofs.Choose.{by_test}

@@ -1,5 +1,7 @@
 // What a host calls. Each function answers for every byte string and every buffer length and has no `requires`; those with C
 // linkage take a pointer and a length for each slice, and give the answer as one packed number.
+#![tactic(auto)]
+
 mod list;
 mod packed;
 mod refusals;

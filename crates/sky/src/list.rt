@@ -28,22 +28,24 @@ pub fn write(rows: &[u8], list: &mut [u8]) -> Answer
     image::write(rows, list)
 }
 
-#[unsafe(no_mangle)]
-pub extern "C" fn sky_check(list: &[u8]) -> u64
+// `check`, with the answer packed.
+#[tactic(auto, using(crate::proofs::Unpacked::check_fits))]
+pub fn sky_check(list: &[u8]) -> u64
     ensures { result ≡ packed (list_answer list.now) }
 {
     pack(check(list))
 }
 
-#[unsafe(no_mangle)]
-pub extern "C" fn sky_read(list: &[u8], rows: &mut [u8]) -> u64
+// `read`, with the answer packed.
+pub fn sky_read(list: &[u8], rows: &mut [u8]) -> u64
     ensures { (result ≡ packed (read_call list.now rows.old).answer) × (rows.new ≡ (read_call list.now rows.old).buffer) }
 {
     pack(read(list, rows))
 }
 
-#[unsafe(no_mangle)]
-pub extern "C" fn sky_write(rows: &[u8], list: &mut [u8]) -> u64
+// `write`, with the answer packed.
+#[tactic(auto, using(crate::proofs::Unpacked::write_fits))]
+pub fn sky_write(rows: &[u8], list: &mut [u8]) -> u64
     ensures { (result ≡ packed (write_call rows.now list.old).answer) × (list.new ≡ (write_call rows.now list.old).buffer) }
 {
     pack(write(rows, list))

@@ -5,6 +5,7 @@ ghost use Rattle.sky.specs.Packed.{packed};
 use image::Answer;
 
 // The answer packed. A value has 24 bits of room, which no run's value exceeds.
+#[tactic(auto, unfolding(crate::specs::Packed::packed))]
 pub(crate) fn pack(a: Answer) -> u64
     requires { a.value < 16777216 }
     ensures { result ≡ packed a }

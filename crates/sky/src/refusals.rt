@@ -3,6 +3,7 @@ ghost use Rattle.std.specs.Prelude.{◌≡◌};
 ghost use Rattle.sky.specs.Kind.{kind_of};
 
 // 1 for an image fault, 2 for a row fault, 3 for room, 0 for every other number.
+#[tactic(auto, unfolding(crate::specs::Kind::kind_of, rules::specs::Choose::choose))]
 pub fn kind(number: u8) -> u8
     ensures { result ≡ kind_of number }
 {
@@ -14,8 +15,8 @@ pub fn kind(number: u8) -> u8
     }
 }
 
-#[unsafe(no_mangle)]
-pub extern "C" fn sky_kind(number: u8) -> u8
+// `kind`, under the name that C hosts call.
+pub fn sky_kind(number: u8) -> u8
     ensures { result ≡ kind_of number }
 {
     kind(number)

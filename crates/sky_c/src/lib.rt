@@ -1,0 +1,37 @@
+// What a host calls through C linkage: the calls of `sky`, each under its own contract, exported from a static library. A slice
+// is a pointer and a length there, and an answer is one packed number. None has a `requires`.
+#![tactic(auto)]
+
+ghost use Rattle.std.specs.Prelude.{◌≡◌};
+ghost use Rattle.image.specs.Refusals.{list_answer};
+ghost use Rattle.image.specs.Calls.{read_call, write_call};
+ghost use Rattle.sky.specs.Packed.{packed};
+ghost use Rattle.sky.specs.Kind.{kind_of};
+
+#[unsafe(no_mangle)]
+pub extern "C" fn sky_check(list: &[u8]) -> u64
+    ensures { result ≡ packed (list_answer list.now) }
+{
+    sky::sky_check(list)
+}
+
+#[unsafe(no_mangle)]
+pub extern "C" fn sky_read(list: &[u8], rows: &mut [u8]) -> u64
+    ensures { (result ≡ packed (read_call list.now rows.old).answer) × (rows.new ≡ (read_call list.now rows.old).buffer) }
+{
+    sky::sky_read(list, rows)
+}
+
+#[unsafe(no_mangle)]
+pub extern "C" fn sky_write(rows: &[u8], list: &mut [u8]) -> u64
+    ensures { (result ≡ packed (write_call rows.now list.old).answer) × (list.new ≡ (write_call rows.now list.old).buffer) }
+{
+    sky::sky_write(rows, list)
+}
+
+#[unsafe(no_mangle)]
+pub extern "C" fn sky_kind(number: u8) -> u8
+    ensures { result ≡ kind_of number }
+{
+    sky::sky_kind(number)
+}
