@@ -13,7 +13,7 @@ use Rattle.rules.specs.State.{Fate, Row, no_row, with_fate, waiting, taken, fini
 use Rattle.rules.specs.LatestStarts.{displaced, displace}
 use Rattle.promises.specs.Bound.{dropped_deadline, reach}
 use Rattle.rules.proofs.Choose.{by_test}
-use Rattle.promises.proofs.Rows.{get_d_displaced}
+use Rattle.promises.proofs.Rows.{get_or-displaced}
 use Rattle.promises.proofs.Sums.{sum_by, sum_by_none, sum_by-set, sum_by_le, sum_by-append}
 use Rattle.promises.proofs.Wf.{if_taken, waits_inside}
 use Rattle.promises.proofs.Reach.{reach-set, reach-append}
@@ -108,4 +108,4 @@ pub displaced-paid : (rows : List Row) → paid rows ≤ paid (map displace rows
 unfolding paid displace
 displaced-paid rows =
     sum_by_le _ _ rows (map displace rows) (sym (length-map rows displace))
-    (λ j. rw (get_d_displaced rows j) (displaced-pays (get_or rows j no_row).fate (get_or rows j no_row).job))
+    (λ j. rw (get_or-displaced rows j) (displaced-pays (get_or rows j no_row).fate (get_or rows j no_row).job))

@@ -19,7 +19,7 @@ use Rattle.rules.specs.Run.{before}
 use Rattle.promises.specs.Plan.{goes_to}
 use Rattle.promises.specs.RunPlan.{running_row, decided_at}
 use Rattle.promises.specs.Lawful.{Lawful}
-use Rattle.promises.proofs.Rows.{at_and_beside, set_keeps, all_append, get_d_displaced}
+use Rattle.promises.proofs.Rows.{at_and_beside, set_keeps, all_append, get_or-displaced}
 use Rattle.promises.proofs.RowNumbers.{same, same_self, same_other}
 use Rattle.promises.proofs.Steps.{Phase, deciding, Step, rests, runs_on, idles, starts_first, resumes, resumes_offering, starts, preempts, waits_on, appears, decides, takes_over, is_dropped}
 use Rattle.promises.proofs.Wf.{RowOk, least_left, Busy, Wf, busy, running_inside}
@@ -56,8 +56,8 @@ unfolding displace
 carries_displaced rows =
     record {
       longer = rw length-map (le_refl _);
-      job = λ j h. ap (λ (r : Row). r.job) (get_d_displaced rows j);
-      given = λ j. ap (λ (r : Row). given r) (get_d_displaced rows j);
+      job = λ j h. ap (λ (r : Row). r.job) (get_or-displaced rows j);
+      given = λ j. ap (λ (r : Row). given r) (get_or-displaced rows j);
     }
 
 carries_append : (j : Job) (rows : List Row) → Carries rows (rows ++ (record { job = j; left = j.cost; fate = waiting } ∷ []))

@@ -18,7 +18,7 @@ use Rattle.rules.specs.LatestStarts.{running_cost, displaced, displace, take_ove
 use Rattle.rules.specs.Run.{decided}
 use Rattle.promises.specs.Lawful.{Due, Lawful}
 use Rattle.rules.proofs.Choose.{by_test}
-use Rattle.promises.proofs.Rows.{all_set, Same, same-mark, get_d_displaced, same-displaced}
+use Rattle.promises.proofs.Rows.{all_set, Same, same-mark, get_or-displaced, same-displaced}
 use Rattle.promises.proofs.Sums.{sum_by, sum_by-set, sum_by_part, sum_by-bound, sum_by_less}
 use Rattle.promises.proofs.RowNumbers.{same, same_eq, same-small}
 use Rattle.promises.proofs.Steps.{opening, deciding, NothingDue}
@@ -101,7 +101,7 @@ module _ {t r : ℕ} {s : State} (w : Wf deciding t s) (e : s.proc ≡ running r
       rw (now, still)
       (sum_by_less (turn t c') (turn t c) (set rows i x) s.rows (length-set rows i x ∙ length-map s.rows displace)
       (all_set (λ (j : ℕ) (y : Row). turn t c' y ≤ turn t c (row_of s j)) rows i x h (omega arith)
-      (λ j n. subst (λ (y : Row). turn t c' y ≤ turn t c (row_of s j)) (sym (get_d_displaced s.rows j))
+      (λ j n. subst (λ (y : Row). turn t c' y ≤ turn t c (row_of s j)) (sym (get_or-displaced s.rows j))
       (turn_of-displaced (row_of s j).fate c c' (cost_of s j) (same (latest_start (row_of s j)) t) (omega arith)
       (λ f. omega (arith, taken_cost w e j f)))))
       i (rw length-set h) (omega (arith, ap (turn t c') (get_or-set_same rows i x no_row h))))

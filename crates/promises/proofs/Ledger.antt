@@ -22,7 +22,7 @@ use Rattle.promises.specs.RunPlan.{decided_at}
 use Rattle.promises.specs.Lawful.{Waits, Due, IsFirst, Lawful}
 use Rattle.promises.specs.Bound.{dropped_deadline, reach, counts, counted, count_from, count}
 use Rattle.rules.proofs.Choose.{by_test}
-use Rattle.promises.proofs.Rows.{Same, same-mark, same-append, get_d_displaced, same-displaced, displaced_waits}
+use Rattle.promises.proofs.Rows.{Same, same-mark, same-append, get_or-displaced, same-displaced, displaced_waits}
 use Rattle.promises.proofs.Sums.{sum_by}
 use Rattle.promises.proofs.Stack.{rows_of, held_by, below_fits}
 use Rattle.promises.proofs.Steps.{Phase, opening, offering, announcing, deciding, Step, rests, runs_on, idles, starts_first, resumes, resumes_offering, starts, preempts, waits_on, appears, decides, takes_over, is_dropped}
@@ -126,7 +126,7 @@ module _ {n t r : ℕ} {s : State} (w : Wf deciding t s) (e : s.proc ≡ running
       let l : deadline_of s i - left_of s i ≡ t = omega (arith, due.1) in
       let m : Same s.rows rows i = same-displaced s.rows i in
       let o : Same rows (mark i taken rows) i = same-mark rows i taken i in
-      let none : stack_left rows ≡ 0 = nothing_left rows (λ j. rw (get_d_displaced s.rows j) (displaced_free (row_of s j).fate)) in
+      let none : stack_left rows ≡ 0 = nothing_left rows (λ j. rw (get_or-displaced s.rows j) (displaced_free (row_of s j).fate)) in
       omega (
         arith,
         from_waiting rows i taken (displaced_waits s.rows i due.0),

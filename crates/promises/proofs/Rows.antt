@@ -71,11 +71,11 @@ same_but_fate rows rows' j f e =
 pub same_row : (rows rows' : List Row) (j : ℕ) → get_or rows' j no_row ≡ get_or rows j no_row → Same rows rows' j
 same_row rows rows' j e = same_but_fate rows rows' j (get_or rows j no_row).fate e
 
-get_d_append_other : (rows : List Row) (x : Row) (j : ℕ) → j ≢ length rows → get_or (rows ++ (x ∷ [])) j no_row ≡ get_or rows j no_row
-get_d_append_other [] x zero n = absurd (n refl)
-get_d_append_other [] x (suc j) n = refl
-get_d_append_other (r ∷ rows) x zero n = refl
-get_d_append_other (r ∷ rows) x (suc j) n = get_d_append_other rows x j (λ e. n (ap suc e))
+get_or-append_other : (rows : List Row) (x : Row) (j : ℕ) → j ≢ length rows → get_or (rows ++ (x ∷ [])) j no_row ≡ get_or rows j no_row
+get_or-append_other [] x zero n = absurd (n refl)
+get_or-append_other [] x (suc j) n = refl
+get_or-append_other (r ∷ rows) x zero n = refl
+get_or-append_other (r ∷ rows) x (suc j) n = get_or-append_other rows x j (λ e. n (ap suc e))
 
 -- A row is appended: what holds of it there, and of every other row, holds of all rows.
 pub all_append : (P : ℕ → Row → Type 0) (rows : List Row) (x : Row) → P (length rows) x
@@ -83,7 +83,7 @@ pub all_append : (P : ℕ → Row → Type 0) (rows : List Row) (x : Row) → P 
 all_append P rows x at beside =
     at_and_beside (λ (j : ℕ). P j (get_or (rows ++ (x ∷ [])) j no_row)) (length rows)
     (subst (P (length rows)) (sym (get_or-append_seam rows x [] no_row)) at)
-    (λ j n. subst (P j) (sym (get_d_append_other rows x j n)) (beside j n))
+    (λ j n. subst (P j) (sym (get_or-append_other rows x j n)) (beside j n))
 
 pub same-append : (rows : List Row) (x : Row) (j : ℕ) → j < length rows → Same rows (rows ++ (x ∷ [])) j
 same-append rows x j h = same_row rows (rows ++ (x ∷ [])) j (get_or-append rows (x ∷ []) no_row j h)
@@ -91,14 +91,14 @@ same-append rows x j h = same_row rows (rows ++ (x ∷ [])) j (get_or-append row
 pub same_beside : (rows : List Row) (i : ℕ) (x : Row) (j : ℕ) → j ≢ i → Same rows (set rows i x) j
 same_beside rows i x j n = same_row rows (set rows i x) j (get_or-set_other rows i j x no_row n)
 
-pub get_d_displaced : (rows : List Row) (j : ℕ) → get_or (map displace rows) j no_row ≡ displace (get_or rows j no_row)
+pub get_or-displaced : (rows : List Row) (j : ℕ) → get_or (map displace rows) j no_row ≡ displace (get_or rows j no_row)
 unfolding displace displaced
-get_d_displaced rows j = get_or-map displace rows j no_row
+get_or-displaced rows j = get_or-map displace rows j no_row
 
 pub same-displaced : (rows : List Row) (j : ℕ) → Same rows (map displace rows) j
 unfolding displace
-same-displaced rows j = same_but_fate rows (map displace rows) j (displaced (get_or rows j no_row).fate) (get_d_displaced rows j)
+same-displaced rows j = same_but_fate rows (map displace rows) j (displaced (get_or rows j no_row).fate) (get_or-displaced rows j)
 
 pub displaced_waits : (rows : List Row) (i : ℕ) → (get_or rows i no_row).fate ≡ waiting → (get_or (map displace rows) i no_row).fate ≡ waiting
 unfolding displace displaced
-displaced_waits rows i w = ap (λ (r : Row). r.fate) (get_d_displaced rows i) ∙ ap displaced w
+displaced_waits rows i w = ap (λ (r : Row). r.fate) (get_or-displaced rows i) ∙ ap displaced w

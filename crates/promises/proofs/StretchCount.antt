@@ -21,7 +21,7 @@ use Rattle.rules.specs.Give.{stretch, one_less, give_to}
 use Rattle.rules.specs.Run.{before, run}
 use Rattle.promises.specs.Lawful.{Waits, Due, IsFirst, Lawful}
 use Rattle.rules.proofs.Choose.{by_test}
-use Rattle.promises.proofs.Rows.{Same, same-mark, same-append, get_d_displaced, same-displaced}
+use Rattle.promises.proofs.Rows.{Same, same-mark, same-append, get_or-displaced, same-displaced}
 use Rattle.promises.proofs.Sums.{sum_by, sum_by-set, sum_by-bound, sum_by-append}
 use Rattle.promises.proofs.Stack.{below_fits}
 use Rattle.promises.proofs.Steps.{Phase, opening, offering, announcing, deciding, Step, rests, runs_on, idles, starts_first, resumes, resumes_offering, starts, preempts, waits_on, appears, decides, takes_over, is_dropped, NothingDue}
@@ -190,7 +190,7 @@ module _ {t r : ℕ} {s : State} (w : Wf deciding t s) (e : s.proc ≡ running r
   unfolding take_over displace displaced caused_by allowed tight
   take_over-allowed =
       let rows : List Row = map displace s.rows in
-      let waits : Waits rows i = ap (λ (x : Row). x.fate) (get_d_displaced s.rows i) ∙ ap displaced due.0 in
+      let waits : Waits rows i = ap (λ (x : Row). x.fate) (get_or-displaced s.rows i) ∙ ap displaced due.0 in
       let k : WaitingOk t (row_of s i).job (row_of s i).left = fate_ok (w.row i) due.0 in
       omega (
         arith,
@@ -207,7 +207,7 @@ module _ {t r : ℕ} {s : State} (w : Wf deciding t s) (e : s.proc ≡ running r
   runner_due z =
       let rows : List Row = map displace s.rows in
       let other : r ≢ i = λ q. taken_not_waiting (sym (running_taken w e) ∙ ap (λ (j : ℕ). (row_of s j).fate) q ∙ due.0) in
-      let beside : get_or (mark i taken rows) r no_row ≡ displace (row_of s r) = get_or-set_other rows i r _ no_row other ∙ get_d_displaced s.rows r in
+      let beside : get_or (mark i taken rows) r no_row ≡ displace (row_of s r) = get_or-set_other rows i r _ no_row other ∙ get_or-displaced s.rows r in
       let lax : t + left_of s r ≤ deadline_of s r = (taken_lax w e r (running_taken w e)).1 in (
         ap (λ (x : Row). x.fate) beside ∙ ap displaced (running_taken w e),
         ap latest_start beside ∙ omega arith,

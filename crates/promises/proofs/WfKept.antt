@@ -12,7 +12,7 @@ use Rattle.rules.specs.Announce.{start, preempt, append}
 use Rattle.rules.specs.Finish.{settle_finished, go_idle, resume}
 use Rattle.rules.specs.LatestStarts.{displaced, displace, take_over, drop_row}
 use Rattle.promises.specs.Lawful.{Waits, Due, IsFirst}
-use Rattle.promises.proofs.Rows.{all_set, Same, same-mark, all_append, same-append, get_d_displaced, same-displaced}
+use Rattle.promises.proofs.Rows.{all_set, Same, same-mark, all_append, same-append, get_or-displaced, same-displaced}
 use Rattle.promises.proofs.Sums.{sum_by}
 use Rattle.promises.proofs.RowNumbers.{same_self, same_other, occurs}
 use Rattle.promises.proofs.Stack.{rows_of, stack_of, held_by, Under, Below, below_keeps, held_keeps, below_fits}
@@ -231,7 +231,7 @@ module _ {t r : ℕ} {s : State} (w : Wf deciding t s) (e : s.proc ≡ running r
   unfolding displace least_left
   displaced_row j =
       let k : RowOk t (row_of s j) = w.row j in
-      subst (RowOk t) (sym (get_d_displaced s.rows j))
+      subst (RowOk t) (sym (get_or-displaced s.rows j))
       (record {
         within = k.within;
         window = k.window;
@@ -255,7 +255,7 @@ module _ {t r : ℕ} {s : State} (w : Wf deciding t s) (e : s.proc ≡ running r
         row = mark_ok t rows i taken displaced_row h tt;
         once =
             once-mark rows i taken [] (i ∷ []) h
-            (λ j. sym (ap (λ (x : Row). if_taken x.fate) (get_d_displaced s.rows j) ∙ displaced_free (row_of s j).fate))
+            (λ j. sym (ap (λ (x : Row). if_taken x.fate) (get_or-displaced s.rows j) ∙ displaced_free (row_of s j).fate))
             (omega (arith, same_self i))
             (λ j o. omega (arith, same_other j i o));
         held = refl;

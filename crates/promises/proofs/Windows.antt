@@ -18,7 +18,7 @@ use Rattle.rules.specs.Give.{one_less, give_to}
 use Rattle.promises.specs.RunPlan.{decided_at}
 use Rattle.promises.specs.Lawful.{Waits, IsFirst, Lawful}
 use Rattle.promises.specs.Bound.{dropped_deadline, reach, counts, counted, is_early}
-use Rattle.promises.proofs.Rows.{at_and_beside, all_set, set_keeps, all_append, get_d_displaced, displaced_waits}
+use Rattle.promises.proofs.Rows.{at_and_beside, all_set, set_keeps, all_append, get_or-displaced, displaced_waits}
 use Rattle.promises.proofs.Steps.{Phase, opening, deciding, Step, rests, runs_on, idles, starts_first, resumes, resumes_offering, starts, preempts, waits_on, appears, decides, takes_over, is_dropped}
 use Rattle.promises.proofs.Wf.{fate_ok, if_taken, Wf, resting, waits_inside, running_inside, running_taken, idle_not_taken}
 use Rattle.promises.proofs.WithinTick.{Timely}
@@ -91,7 +91,7 @@ module _ {test : ℕ → Bool} {t : ℕ} where
   unfolding displace
   displaced_windows rows q =
       record {
-        row = λ j. rw (get_d_displaced rows j)
+        row = λ j. rw (get_or-displaced rows j)
             (λ s a b. q.row j s a (omega (arith, until-displaced t (get_or rows j no_row).fate (get_or rows j no_row).job)));
       }
 

@@ -1,5 +1,5 @@
-// What a host calls. Each function answers for every byte string and every buffer length and has no `requires`; those with C
-// linkage take a pointer and a length for each slice, and give the answer as one packed number.
+// What a host calls. Each function answers for every byte string and every buffer length and has no `requires`. Those named
+// sky_ give the answer as one packed number; sky_c exports them to C.
 #![tactic(auto)]
 
 mod list;

@@ -1,4 +1,4 @@
-// Lists: checked, read and written, for Rattle callers and through C linkage.
+// Lists: checked, read and written, with the answer as a struct or, as C hosts get it, as one packed number.
 ghost use Rattle.std.specs.Prelude.{◌≡◌};
 ghost use Rattle.image.specs.Refusals.{list_answer};
 ghost use Rattle.image.specs.Calls.{read_call, write_call};
