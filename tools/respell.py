@@ -18,9 +18,14 @@ import sys
 import tempfile
 
 HERE = os.path.dirname(os.path.realpath(__file__))
-PORT = "/opt/rattle/port/port.py"
 TOKEN = re.compile(r"[^\s(){}\[\];,.:`\"]+")
 CAMEL = re.compile(r"[a-z][a-z0-9]*[A-Z]")
+
+
+def toolchain():
+    """The toolchain's folder, which holds the page that `rt doc` names."""
+    page = subprocess.run(["rt", "doc"], check=True, stdout=subprocess.PIPE, text=True).stdout.strip()
+    return os.path.dirname(page)
 
 
 def table():
@@ -114,7 +119,7 @@ def turn_edits(root, landed):
     run("git", "init", "-q", where=top)
     run("git", "add", "-A", where=top)
     run("git", "-c", "user.name=port", "-c", "user.email=port@localhost", "commit", "-qm", "copies", where=top)
-    run(sys.executable, PORT, where=top)
+    run(sys.executable, os.path.join(toolchain(), "port", "port.py"), where=top)
     turn_names(top)
     names = table()
     for (crate, name), (target, copy, told) in made.items():

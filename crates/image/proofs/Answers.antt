@@ -66,3 +66,11 @@ rows_accepted rs e =
 -- An answer that is the same has the same number: past the first test of a call, the definition's answer is 0 too.
 pub number_0 : {a b : Answer} → a ≡ b → a.number ≡ 0 → b.number ≡ 0
 number_0 e h = ap (λ (x : Answer). x.number) (sym e) ∙ h
+
+-- What a check let pass has a header and at most 64 rows.
+pub passed_size : (s : List ℕ) {a : Answer} → a ≡ list_answer s → a.number ≡ 0 → (7 ≤ length s) × (length s ≤ 903)
+passed_size s e h = let a = list_accepted s (number_0 e h) in (omega arith, omega arith)
+
+-- Rows that were let pass with no image around them are at most 64.
+pub passed_rows : (rs : List ℕ) {a : Answer} → a ≡ rows_answer rs → a.number ≡ 0 → length rs ≤ 896
+passed_rows rs e h = let a = rows_accepted rs (number_0 e h) in omega arith

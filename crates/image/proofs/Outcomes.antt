@@ -1,12 +1,12 @@
 -- The three outcomes of a call that writes: refused by the list, refused for room, done. Rests on Calls.
-use mathlib.Core.Path.{◌≡◌, ◌∙◌}
+use mathlib.Core.Path.{◌≡◌, ◌∙◌, sym, ap}
 use mathlib.Core.List.{List, ◌++◌}
 use Prim.Native.Nat.{ℕ, ◌≤◌, ◌<◌}
 use lib.ListN.{length, drop}
 use borrow.Author.Tests.{eq-eqb, ne_eqb, lt-ltb, le-ltb}
 use Rattle.rules.specs.Choose.{choose}
 use Rattle.image.specs.Refusals.{refused, accepted}
-use Rattle.image.specs.Calls.{written, judged}
+use Rattle.image.specs.Calls.{Called, written, judged}
 use Rattle.image.specs.declared.answer.Answer.{Answer}
 
 module _ (v : ℕ) (w d : List ℕ) where
@@ -32,3 +32,7 @@ module _ (a : Answer) (v : ℕ) (w d : List ℕ) where
 
   pub done : a.number ≡ 0 → length w ≤ length d → judged a v w d ≡ record { answer = accepted v (length w); buffer = w ++ drop (length w) d }
   done h l = passed_list h ∙ written-done v w d l
+
+-- What is known of a call is known of its answer and of its buffer.
+pub each_of : {k : Called} {a : Answer} {d : List ℕ} → k ≡ record { answer = a; buffer = d } → (a ≡ k.answer) × (d ≡ k.buffer)
+each_of e = (sym (ap (λ (x : Called). x.answer) e), sym (ap (λ (x : Called). x.buffer) e))

@@ -57,3 +57,6 @@ module _ (rs : List ℕ) where
   pub rows_end : (n i : ℕ) → n ≤ i → rows_from rs (n - i) i ≡ accepted 0 0
   unfolding rows_from
   rows_end n i h = let e : n - i ≡ 0 = omega arith in rw e
+
+-- What a turn over the rows may find: no refusal, one, or no row left.
+pub ruleset turns = (rows_on, rows_stop, rows_end)

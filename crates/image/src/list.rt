@@ -47,6 +47,7 @@ fn check_raw(rows: &[u8]) -> Answer
 }
 
 // Gives an accepted image's rows back, 14 bytes each.
+#[tactic(auto, using(crate::proofs::Answers::passed_size))]
 pub fn read(list: &[u8], rows: &mut [u8]) -> Answer
     ensures { (result ≡ (read_call list.now rows.old).answer) × (rows.new ≡ (read_call list.now rows.old).buffer) }
 {
@@ -76,6 +77,7 @@ fn lay_image(rows: &[u8], list: &mut [u8])
 }
 
 // Writes the image of rows that are given as bytes, 14 each.
+#[tactic(auto, using(crate::proofs::Answers::passed_rows))]
 pub fn write(rows: &[u8], list: &mut [u8]) -> Answer
     ensures { (result ≡ (write_call rows.now list.old).answer) × (list.new ≡ (write_call rows.now list.old).buffer) }
 {

@@ -77,7 +77,7 @@ fn row_fault(rs: &[u8], i: usize) -> u8
 }
 
 // The answer for n rows, from first to last.
-#[tactic(auto, using(crate::proofs::Searches::rows_on, crate::proofs::Searches::rows_stop, crate::proofs::Searches::rows_end))]
+#[tactic(auto, using(crate::proofs::Searches::turns))]
 pub(crate) fn check_rows(rs: &[u8], n: usize) -> Answer
     requires { (14 * n ≤ length rs.now) × (n < 65536) }
     ensures { result ≡ rows_from rs.now n 0 }

@@ -26,3 +26,6 @@ module _ (n : ℕ) where
   pub above : 12 < n → 0 ≡ kind_of n
   unfolding kind_of choose
   above h = simp (le-leb 1 n (omega arith), lt-leb n 5 (omega arith), le-leb 6 n (omega arith), lt-leb n 11 (omega arith), ne_eqb n 12 (omega arith))
+
+-- The five ranges together are every number.
+pub ruleset ranges = (image_fault, row_fault, room, below, above)

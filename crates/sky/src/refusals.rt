@@ -3,7 +3,7 @@ ghost use Rattle.std.specs.Prelude.{◌≡◌};
 ghost use Rattle.sky.specs.Kind.{kind_of};
 
 // 1 for an image fault, 2 for a row fault, 3 for room, 0 for every other number.
-#[tactic(auto, unfolding(crate::specs::Kind::kind_of, rules::specs::Choose::choose))]
+#[tactic(auto, using(crate::proofs::KindRanges::ranges))]
 pub fn kind(number: u8) -> u8
     ensures { result ≡ kind_of number }
 {
