@@ -1,33 +1,13 @@
--- Stores one after the other are bytes laid at a place; two pieces laid side by side are one piece; and a number laid is
--- the number read back. Rests on the fields' definitions and the library's laws of lists.
-use mathlib.Core.Path.{◌≡◌, sym, ap, ◌∙◌}
+-- Two pieces laid side by side are one piece, and a number laid is the number read back. Rests on the fields' definitions and the library's laws of lists.
+use mathlib.Core.Path.{◌≡◌, refl, sym, ap, ◌∙◌}
 use mathlib.Core.List.{List, [], ◌∷◌, ◌++◌, append_assoc}
-use Prim.Native.Nat.{ℕ, ◌+◌, ◌-◌, ◌*◌, ◌/◌, ◌%◌, ◌≤◌, ◌<◌}
-use native.Mathlib.Numerals.{towards_suc, add-one}
-use native.Mathlib.Nat.{zero-add}
+use Prim.Native.Nat.{ℕ, zero, suc, ◌^◌, ◌+◌, ◌-◌, ◌*◌, ◌/◌, ◌%◌, ◌≤◌, ◌<◌}
+use native.Mathlib.Numerals.{add-one}
+use native.Mathlib.Nat.{zero-add, add-zero, pow-suc}
 use native.Mathlib.Omega.{arith}
-use lib.ListN.{length, get_or, set, take, drop, length-append, length-drop}
-use lib.Seq.{sets-eq, paste, paste-suc, length-paste, length-take-le, take_all, take-length, take_at, drop_at, drop-drop, drop-cons}
-use Rattle.fields.specs.Fields.{be2, be4, bytes2, bytes4, laid}
-
-pub lay1 : (d : List ℕ) (at v : ℕ) → at + 1 ≤ length d → set d at v ≡ laid d at (v ∷ [])
-unfolding laid
-lay1 d at v h = sets-eq (v ∷ []) d at h
-
-pub lay2 : (d : List ℕ) (at v : ℕ) → at + 2 ≤ length d → set (set d at (v / 256 % 256)) (at + 1) (v % 256) ≡ laid d at (bytes2 v)
-unfolding bytes2 laid
-lay2 d at v h = simp towards_suc (simp towards_suc at (sets-eq ((v / 256 % 256) ∷ (v % 256) ∷ []) d at h))
-
-pub lay4 : (d : List ℕ) (at v : ℕ) → at + 4 ≤ length d
-    → set (set (set (set d at (v / 256 / 256 / 256 % 256)) (at + 1) (v / 256 / 256 % 256)) (at + 2) (v / 256 % 256)) (at + 3) (v % 256) ≡ laid d at (bytes4 v)
-unfolding bytes4 laid
-lay4 d at v h = simp towards_suc (simp towards_suc at (sets-eq ((v / 256 / 256 / 256 % 256) ∷ (v / 256 / 256 % 256) ∷ (v / 256 % 256) ∷ (v % 256) ∷ []) d at h))
-
--- One byte more of a copy.
-pub lay_more : (d : List ℕ) (at : ℕ) (w : List ℕ) (i : ℕ) (x : List ℕ) → at + length w ≤ length d → i < length w → x ≡ paste d at w i
-    → set x (at + i) (get_or w i 0) ≡ paste d at w (i + 1)
-lay_more d at w i x room inside e =
-    rw (e, add-one i) (paste-suc d at w i 0 (omega arith) inside)
+use lib.ListN.{length, get_or, take, drop, length-append, length-drop}
+use lib.Seq.{paste, length-paste, length-take-le, take_all, take-length, take_at, drop_at, drop-drop, drop-cons, get_or-append_seam}
+use Rattle.fields.specs.Fields.{be, be2, be4, bytes, bytes2, bytes4, laid}
 
 -- A copy of all of w is w laid.
 pub lay_all : (d : List ℕ) (at : ℕ) (w : List ℕ) → paste d at w (length w) ≡ laid d at w
@@ -77,14 +57,34 @@ laid-start d w = rw (zero-add (length w))
 pub rest_whole : (s : List ℕ) (k : ℕ) → take (length s - k) (drop k s) ≡ drop k s
 rest_whole s k = take_all (length s - k) (drop k s) (omega (arith, length-drop k s))
 
+-- That part, laid from the start of a buffer on.
+pub rest_laid : (s d : List ℕ) (k : ℕ) → laid d 0 (take (length s - k) (drop k s)) ≡ drop k s ++ drop (length (drop k s)) d
+rest_laid s d k = rw (rest_whole s k) (laid-start d (drop k s))
+
+-- A number's bytes are as many as they are called.
+pub bytes_length : (n v : ℕ) → length (bytes n v) ≡ n
+unfolding bytes
+bytes_length zero v = refl
+bytes_length (suc n) v = omega (arith, length-append (bytes n (v / 256)) ((v % 256) ∷ []), bytes_length n (v / 256))
+
 -- A number laid is read back.
+pub be-bytes : (n v : ℕ) (rest : List ℕ) → v < 256 ^ n → be n (bytes n v ++ rest) 0 ≡ v
+unfolding be bytes
+be-bytes zero v rest h = omega arith
+be-bytes (suc zero) v rest h = omega arith
+be-bytes (suc (suc n)) v rest h =
+    let high : v / 256 < 256 ^ suc n = omega (arith, pow-suc 256 (suc n)) in
+    let front = bytes (suc n) (v / 256) in
+    let cut : (front ++ ((v % 256) ∷ [])) ++ rest ≡ front ++ ((v % 256) ∷ rest) = append_assoc front ((v % 256) ∷ []) rest in
+    let low : get_or (front ++ ((v % 256) ∷ rest)) (0 + suc n) 0 ≡ v % 256 =
+    ap (λ (i : ℕ). get_or (front ++ ((v % 256) ∷ rest)) i 0) (zero-add (suc n) ∙ sym (bytes_length (suc n) (v / 256))) ∙ get_or-append_seam front (v % 256) rest 0 in
+    rw (cut, be-bytes (suc n) (v / 256) ((v % 256) ∷ rest) high, low) (omega arith)
+
 pub be2-bytes2 : (v : ℕ) (rest : List ℕ) → v < 65536 → be2 (bytes2 v ++ rest) 0 ≡ v
-unfolding be2 bytes2
-be2-bytes2 v rest h = omega arith
+be2-bytes2 v rest h = be-bytes 2 v rest h
 
 pub be4-bytes4 : (v : ℕ) (rest : List ℕ) → v < 4294967296 → be4 (bytes4 v ++ rest) 0 ≡ v
-unfolding be4 bytes4
-be4-bytes4 v rest h = omega arith
+be4-bytes4 v rest h = be-bytes 4 v rest h
 
 -- What a byte is.
 abbrev pub Bytes : List ℕ → Type 0
@@ -96,33 +96,26 @@ next s k m e h = drop-cons s k 0 h ∙ ap (λ (j : ℕ). get_or s k 0 ∷ drop j
 
 module _ (s : List ℕ) (b : Bytes s) (at : ℕ) where
   -- A number read has the bytes that it was read from.
+  pub bytes-be : (n : ℕ) → at + n ≤ length s → bytes n (be n s at) ++ drop (at + n) s ≡ drop at s
+  unfolding be bytes
+  bytes-be zero h = ap (λ (k : ℕ). drop k s) (add-zero at)
+  bytes-be (suc zero) h =
+      let low : get_or s at 0 % 256 ≡ get_or s at 0 = omega (arith, b at) in
+      ap (λ (x : ℕ). x ∷ drop (at + 1) s) low ∙ sym (next s at (at + 1) refl (omega arith))
+  bytes-be (suc (suc n)) h =
+      let m = be (suc n) s at in
+      let x = get_or s (at + suc n) 0 in
+      let rest = drop (at + suc (suc n)) s in
+      let high : (m * 256 + x) / 256 ≡ m = omega (arith, b (at + suc n)) in
+      let low : (m * 256 + x) % 256 ≡ x = omega (arith, b (at + suc n)) in
+      ap (λ (v : ℕ). (bytes (suc n) v ++ (((m * 256 + x) % 256) ∷ [])) ++ rest) high
+      ∙ ap (λ (y : ℕ). (bytes (suc n) m ++ (y ∷ [])) ++ rest) low
+      ∙ append_assoc (bytes (suc n) m) (x ∷ []) rest
+      ∙ ap (λ (l : List ℕ). bytes (suc n) m ++ l) (sym (next s (at + suc n) (at + suc (suc n)) (omega arith) (omega arith)))
+      ∙ bytes-be (suc n) (omega arith)
+
   pub bytes2-be2 : at + 2 ≤ length s → bytes2 (be2 s at) ++ drop (at + 2) s ≡ drop at s
-  unfolding be2 bytes2
-  bytes2-be2 h =
-      let x = get_or s at 0 in
-      let y = get_or s (at + 1) 0 in
-      let hx : (x * 256 + y) / 256 % 256 ≡ x = omega (arith, b at, b (at + 1)) in
-      let hy : (x * 256 + y) % 256 ≡ y = omega (arith, b (at + 1)) in
-      rw (hx, hy)
-      (sym (next s at (at + 1) (omega arith) (omega arith)
-      ∙ ap (λ (r : List ℕ). x ∷ r) (next s (at + 1) (at + 2) (omega arith) (omega arith))))
+  bytes2-be2 h = bytes-be 2 h
 
   pub bytes4-be4 : at + 4 ≤ length s → bytes4 (be4 s at) ++ drop (at + 4) s ≡ drop at s
-  unfolding be4 bytes4
-  bytes4-be4 h =
-      let x = get_or s at 0 in
-      let y = get_or s (at + 1) 0 in
-      let z = get_or s (at + 2) 0 in
-      let w = get_or s (at + 3) 0 in
-      let v = ((x * 256 + y) * 256 + z) * 256 + w in
-      let three : v / 256 ≡ (x * 256 + y) * 256 + z = omega (arith, b (at + 3)) in
-      let two : ((x * 256 + y) * 256 + z) / 256 ≡ x * 256 + y = omega (arith, b (at + 2)) in
-      let hx : (x * 256 + y) / 256 % 256 ≡ x = omega (arith, b at, b (at + 1)) in
-      let hy : (x * 256 + y) % 256 ≡ y = omega (arith, b (at + 1)) in
-      let hz : ((x * 256 + y) * 256 + z) % 256 ≡ z = omega (arith, b (at + 2)) in
-      let hw : v % 256 ≡ w = omega (arith, b (at + 3)) in
-      rw (three, two, hx, hy, hz, hw)
-      (sym (next s at (at + 1) (omega arith) (omega arith)
-      ∙ ap (λ (r : List ℕ). x ∷ r) (next s (at + 1) (at + 2) (omega arith) (omega arith)
-      ∙ ap (λ (r : List ℕ). y ∷ r) (next s (at + 2) (at + 3) (omega arith) (omega arith)
-      ∙ ap (λ (r : List ℕ). z ∷ r) (next s (at + 3) (at + 4) (omega arith) (omega arith))))))
+  bytes4-be4 h = bytes-be 4 h

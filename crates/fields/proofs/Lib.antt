@@ -1,2 +1,3 @@
 -- Laws of the fields: what stores leave, and that a number laid is the number read back.
+pub mod Words
 pub mod Laws

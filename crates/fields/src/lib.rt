@@ -1,73 +1,38 @@
-// Big-endian numbers of two and four bytes: read from a byte slice, and laid into one. The images are made of these.
+//! Big-endian numbers of up to four bytes: read from a byte slice, and laid into one. The images are made of these.
+//! Each call asks that its place is inside the slice, as an index does: slice and place are the caller's, and differ at each
+//! call, so that no type keeps the fact for the next one.
 #![tactic(auto)]
 
-ghost use Rattle.std.specs.Prelude.{◌≡◌, [], ◌∷◌, ◌+◌, ◌≤◌, ◌<◌, length};
-ghost use Rattle.fields.specs.Fields.{be2, be4, bytes2, bytes4, laid};
+ghost use Rattle.std.specs.Prelude.{◌≡◌, ◌+◌, ◌≤◌, length};
+ghost use Rattle.fields.specs.Fields.{be, bytes, laid};
 
-// A byte as a wider number, which is still below 256.
-fn wide(x: u8) -> u32
-    ensures { (result ≡ x) × (result < 256) }
+/// The number of the N bytes at `at`.
+#[tactic(auto, using(crate::proofs::Words::number_read))]
+pub fn get<const N: usize>(s: &[u8], at: usize) -> u32
+    requires few { N ≤ 4 }
+    requires inside { at + N ≤ length s.now }
+    ensures { result ≡ be N s.now at }
 {
-    x as u32
+    let mut word = [0; 4];
+    word[4 - N..].copy_from_slice(&s[at..at + N]);
+    u32::from_be_bytes(word)
 }
 
-// The number of two bytes at `at`.
-#[tactic(auto, unfolding(crate::specs::Fields::be2))]
-pub fn get2(s: &[u8], at: usize) -> u32
-    requires { at + 2 ≤ length s.now }
-    ensures { result ≡ be2 s.now at }
+/// Lays a number's N lowest bytes into d from `at` on.
+#[tactic(auto, using(crate::proofs::Words::word_bytes))]
+pub fn put<const N: usize>(d: &mut [u8], at: usize, v: u32)
+    requires few { N ≤ 4 }
+    requires inside { at + N ≤ length d.old }
+    ensures { d.new ≡ laid d.old at (bytes N v) }
 {
-    wide(s[at]) * 256 + wide(s[at + 1])
+    put_all(d, at, &v.to_be_bytes()[4 - N..]);
 }
 
-// The number of four bytes at `at`.
-#[tactic(auto, unfolding(crate::specs::Fields::be4))]
-pub fn get4(s: &[u8], at: usize) -> u32
-    requires { at + 4 ≤ length s.now }
-    ensures { result ≡ be4 s.now at }
-{
-    ((wide(s[at]) * 256 + wide(s[at + 1])) * 256 + wide(s[at + 2])) * 256 + wide(s[at + 3])
-}
-
-// Lays one byte into d at `at`.
-#[tactic(auto, using(crate::proofs::Laws::lay1))]
-pub fn put1(d: &mut [u8], at: usize, v: u8)
-    requires { at + 1 ≤ length d.old }
-    ensures { d.new ≡ laid d.old at (v ∷ []) }
-{
-    d[at] = v;
-}
-
-// Lays a number's two bytes into d from `at` on.
-#[tactic(auto, using(crate::proofs::Laws::lay2))]
-pub fn put2(d: &mut [u8], at: usize, v: u32)
-    requires { at + 2 ≤ length d.old }
-    ensures { d.new ≡ laid d.old at (bytes2 v) }
-{
-    d[at] = (v / 256 % 256) as u8;
-    d[at + 1] = (v % 256) as u8;
-}
-
-// Lays a number's four bytes into d from `at` on.
-#[tactic(auto, using(crate::proofs::Laws::lay4))]
-pub fn put4(d: &mut [u8], at: usize, v: u32)
-    requires { at + 4 ≤ length d.old }
-    ensures { d.new ≡ laid d.old at (bytes4 v) }
-{
-    d[at] = (v / 256 / 256 / 256 % 256) as u8;
-    d[at + 1] = (v / 256 / 256 % 256) as u8;
-    d[at + 2] = (v / 256 % 256) as u8;
-    d[at + 3] = (v % 256) as u8;
-}
-
-// Lays all the bytes of w into d from `at` on.
+/// Lays all the bytes of w into d from `at` on.
+#[tactic(auto, using(crate::proofs::Words::copied))]
 pub fn put_all(d: &mut [u8], at: usize, w: &[u8])
     requires { at + length w.now ≤ length d.old }
     ensures { d.new ≡ laid d.old at w.now }
 {
-    let mut i = 0;
-    while i < w.len() {
-        d[at + i] = w[i];
-        i += 1;
-    }
+    d[at..at + w.len()].copy_from_slice(w);
 }

@@ -6,7 +6,7 @@ use native.Mathlib.Nat.{zero-add}
 use native.Mathlib.Omega.{arith}
 use lib.ListN.{length, drop}
 use lib.Seq.{get_or-drop}
-use Rattle.fields.specs.Fields.{be2}
+use Rattle.fields.specs.Fields.{be, be2}
 use Rattle.fields.proofs.Laws.{Bytes}
 use Rattle.rules.specs.Job.{Job}
 use Rattle.image.specs.Rows.{name_at, job_at}
@@ -18,7 +18,7 @@ use Rattle.image.proofs.GoodRows.{Good, all_good, other_names, accepted_proper, 
 
 -- Two bytes say at most 65,535.
 be2-small : (s : List ℕ) → Bytes s → (at : ℕ) → be2 s at ≤ 65535
-unfolding be2
+unfolding be
 be2-small s b at = omega (arith, b at, b (at + 1))
 
 -- Bytes that are left when some are taken off.

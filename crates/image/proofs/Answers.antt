@@ -6,7 +6,7 @@ use Prim.Native.Nat.{ℕ, ◌+◌, ◌*◌, ◌-◌, ◌/◌, ◌%◌, ◌≤◌
 use native.Mathlib.Omega.{arith}
 use lib.Dec.{ltb, eqb}
 use lib.ListN.{length, get_or}
-use borrow.Author.Tests.{ltb-false, eqb-true, not-false}
+use borrow.Author.Tests.{ltb-false, eqb-true, not-false, eq-eqb, le-ltb}
 use Rattle.fields.specs.Fields.{be4}
 use Rattle.rules.specs.Choose.{choose}
 use Rattle.image.specs.Refusals.{refused, row_limit, row_count, row_bytes, rows_from, list_answer, rows_answer}
@@ -63,7 +63,18 @@ rows_accepted rs e =
     let rest : length rs % 14 ≡ 0 = eqb-true _ _ (not-false _ p5.unmet) in
     record { few = ltb-false _ _ p4.unmet; whole = omega arith; rows = p5.ok }
 
--- An answer that is the same has the same number: past the first test of a call, the definition's answer is 0 too.
+-- And the other way: what meets none of the tests before the rows is answered by its rows.
+pub list_passed : (s : List ℕ) → 7 ≤ length s → be4 s 0 ≡ length s - 4 → get_or s 4 0 ≡ 1 → row_count s ≤ row_limit → be4 s 0 ≡ 3 + 14 * row_count s
+    → list_answer s ≡ rows_from (row_bytes s) (row_count s) 0
+unfolding list_answer choose
+list_passed s long field version few size =
+    rw (le-ltb (length s) 7 long, eq-eqb (be4 s 0) (length s - 4) field, eq-eqb (get_or s 4 0) 1 version, le-ltb row_limit (row_count s) few, eq-eqb (be4 s 0) (3 + 14 * row_count s) size)
+
+pub rows_passed : (rs : List ℕ) → length rs / 14 ≤ row_limit → length rs % 14 ≡ 0 → rows_answer rs ≡ rows_from rs (length rs / 14) 0
+unfolding rows_answer choose
+rows_passed rs few whole = rw (le-ltb row_limit (length rs / 14) few, whole)
+
+-- An answer that is the same has the same number.
 pub number_0 : {a b : Answer} → a ≡ b → a.number ≡ 0 → b.number ≡ 0
 number_0 e h = ap (λ (x : Answer). x.number) (sym e) ∙ h
 

@@ -5,7 +5,6 @@ use mathlib.Core.Bool.{Bool, true, false, ◌||◌, true≢false}
 use Prim.Native.Nat.{ℕ, zero, suc, ◌+◌, ◌-◌, ◌≤◌, ◌<◌}
 use mathlib.Core.Logic.{⊎_elim}
 use native.Mathlib.Nat.{le_of_suc-le-suc, eq-or-lt_of_le}
-use native.Mathlib.Numerals.{add-one}
 use native.Mathlib.Omega.{arith}
 use lib.Dec.{ltb, eqb}
 use lib.ListN.{length}
@@ -15,6 +14,7 @@ use Rattle.rules.specs.Job.{ProperFrom, Proper}
 use Rattle.image.specs.Rows.{name_at, release_at, cost_at, deadline_at, job_at, jobs_from}
 use Rattle.image.specs.Refusals.{refused, deadline_limit, named, release_before, row_number, row_fault, rows_from}
 use Rattle.image.specs.Accepted.{job_of}
+use Rattle.image.proofs.Searches.{release_next}
 
 -- A test whose number was not given was not met.
 record Unmet (b : Bool) (rest : ℕ) : Type 0 where
@@ -86,10 +86,6 @@ module _ (rs : List ℕ) where
       ⊎_elim (λ (same : j ≡ k). subst (λ (m : ℕ). name_at rs m ≡ x → ⊥) (sym same) (eqb-false _ _ n.0)) (λ (below : j < k). other_names x k n.1 j below)
       (eq-or-lt_of_le (le_of_suc-le-suc h))
 
-  release_next : (i : ℕ) → release_before rs (i + 1) ≡ release_at rs i
-  unfolding release_before
-  release_next i = ap (release_before rs) (add-one i)
-
   -- The jobs of good rows are proper.
   pub proper_from : (k i : ℕ) → ((j : ℕ) → i ≤ j → j < i + k → Good j) → ProperFrom (release_before rs i) (jobs_from rs k i)
   unfolding jobs_from
@@ -98,7 +94,7 @@ module _ (rs : List ℕ) where
       let here = g i (omega arith) (omega arith) in (
         here.later,
         record { costly = here.cost; fits = here.fits },
-        rw (release_next i) at (proper_from k (i + 1) (λ j h l. g j (omega arith) (omega arith))),
+        rw (release_next rs i) at (proper_from k (i + 1) (λ j h l. g j (omega arith) (omega arith))),
       )
 
   pub jobs_length : (k i : ℕ) → length (jobs_from rs k i) ≡ k

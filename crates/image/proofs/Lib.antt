@@ -1,4 +1,5 @@
 -- Laws of list images that belong to no one function.
+pub mod RowArrays
 pub mod Searches
 pub mod Answers
 pub mod Outcomes
@@ -7,3 +8,4 @@ pub mod GoodRows
 pub mod AcceptedList
 pub mod RoundTrip
 pub mod Plain
+pub mod OneResult

@@ -2,19 +2,17 @@
 -- Rests on Answers and the fields' laws.
 use mathlib.Core.Path.{◌≡◌, refl, sym, ap, ◌∙◌}
 use mathlib.Core.List.{List, ◌∷◌, ◌++◌}
-use Prim.Native.Nat.{ℕ, ◌+◌, ◌*◌, ◌-◌, ◌/◌, ◌%◌, ◌≤◌}
+use Prim.Native.Nat.{ℕ, ◌+◌, ◌*◌, ◌/◌, ◌%◌, ◌≤◌}
 use native.Mathlib.Omega.{arith}
 use lib.ListN.{length, get_or, drop, length-drop}
 use lib.Seq.{drop-cons}
-use borrow.Author.Tests.{eq-eqb, le-ltb}
-use Rattle.rules.specs.Choose.{choose}
-use Rattle.fields.specs.Fields.{be2, be4, bytes2, bytes4}
+use Rattle.fields.specs.Fields.{be, be4, bytes, bytes2, bytes4}
 use Rattle.fields.proofs.Laws.{Bytes, be2-bytes2, be4-bytes4, bytes2-be2, bytes4-be4}
 use Rattle.image.specs.Refusals.{accepted, row_limit, row_count, row_bytes, list_answer, rows_answer}
 use Rattle.image.specs.Calls.{image_of, read_call, write_call}
 use Rattle.image.proofs.Outcomes.{done}
 use Rattle.image.proofs.Laying.{image_length}
-use Rattle.image.proofs.Answers.{list_accepted, rows_accepted}
+use Rattle.image.proofs.Answers.{list_accepted, rows_accepted, list_passed, rows_passed}
 
 module _ (s : List ℕ) (e : (list_answer s).number ≡ 0) where
   -- An accepted image's rows are as many as it says.
@@ -26,10 +24,10 @@ module _ (s : List ℕ) (e : (list_answer s).number ≡ 0) where
 
   -- The writer accepts the rows that were read.
   pub read_accepted : (rows_answer (row_bytes s)).number ≡ 0
-  unfolding rows_answer choose
   read_accepted =
       let a = list_accepted s e in
-      simp (rows_of.1, rows_of.2, le-ltb 64 (row_count s) a.few) a.rows
+      let few : length (row_bytes s) / 14 ≤ row_limit = omega (arith, rows_of.1, a.few) in
+      rw (rows_passed (row_bytes s) few rows_of.2, rows_of.1) a.rows
 
   -- Writing what was read gives the image again.
   pub write_read : Bytes s → image_of (row_bytes s) ≡ s
@@ -47,7 +45,7 @@ module _ (s : List ℕ) (e : (list_answer s).number ≡ 0) where
 module _ (rs : List ℕ) (e : (rows_answer rs).number ≡ 0) where
   -- Reading what was written gives the rows again.
   pub read_write : row_bytes (image_of rs) ≡ rs
-  unfolding image_of bytes2 bytes4
+  unfolding image_of bytes
   read_write = refl
 
   field_written : be4 (image_of rs) 0 ≡ 3 + length rs
@@ -55,27 +53,21 @@ module _ (rs : List ℕ) (e : (rows_answer rs).number ≡ 0) where
   field_written = let a = rows_accepted rs e in be4-bytes4 (3 + length rs) _ (omega arith)
 
   version_written : get_or (image_of rs) 4 0 ≡ 1
-  unfolding image_of bytes4
+  unfolding image_of bytes
   version_written = refl
 
   count-written : row_count (image_of rs) ≡ length rs / 14
-  unfolding image_of bytes2 bytes4 be2
+  unfolding image_of bytes be
   count-written = let a = rows_accepted rs e in be2-bytes2 (length rs / 14) rs (omega arith)
 
   -- The reader accepts the image that was written.
   pub written-accepted : (list_answer (image_of rs)).number ≡ 0
-  unfolding list_answer choose
   written-accepted =
       let a = rows_accepted rs e in
       let size = image_length rs in
-      simp (
-        le-ltb (length (image_of rs)) 7 (omega arith),
-        eq-eqb (be4 (image_of rs) 0) (length (image_of rs) - 4) (omega (arith, field_written)),
-        eq-eqb (get_or (image_of rs) 4 0) 1 version_written,
-        le-ltb row_limit (row_count (image_of rs)) (omega (arith, count-written)),
-        eq-eqb (be4 (image_of rs) 0) (3 + 14 * row_count (image_of rs)) (omega (arith, field_written, count-written)),
-      )
-      (rw (read_write, count-written) a.rows)
+      let field = field_written in
+      let count = count-written in
+      rw (list_passed (image_of rs) (omega arith) (omega arith) version_written (omega arith) (omega arith), read_write, count) a.rows
 
 -- The same of the calls, with any buffer that is long enough: what was read is written as the image it was read from,
 pub write_back : (s d : List ℕ) → Bytes s → (list_answer s).number ≡ 0 → length s ≤ length d

@@ -4,3 +4,4 @@ pub mod Rows
 pub mod Refusals
 pub mod Calls
 pub mod Accepted
+pub mod Numbering

@@ -1,17 +1,24 @@
-// An answer as one number, for C.
-ghost use Rattle.std.specs.Prelude.{◌≡◌, ◌<◌};
+//! An answer as one number, which is all that C gets of it: document 01 gives each part its place.
+ghost use Rattle.std.specs.Prelude.{◌≡◌, ◌^◌, ◌<◌};
 ghost use Rattle.sky.specs.Packed.{packed};
 
 use image::Answer;
 
-// The answer packed. A value has 24 bits of room, which no run's value exceeds.
+// What a part is worth by its place; the value stands at the end.
+const NUMBER: u64 = 1 << 56;
+
+const ROW: u64 = 1 << 40;
+
+const SIZE: u64 = 1 << 24;
+
+/// The answer packed. A value has 24 bits of room, which no run's value exceeds.
 #[tactic(auto, unfolding(crate::specs::Packed::packed))]
 pub(crate) fn pack(a: Answer) -> u64
-    requires { a.value < 16777216 }
+    requires { a.value < 2 ^ 24 }
     ensures { result ≡ packed a }
 {
-    (a.number as u64) * 72057594037927936
-        + (a.row as u64) * 1099511627776
-        + (a.size as u64) * 16777216
-        + (a.value as u64)
+    u64::from(a.number) * NUMBER
+        + u64::from(a.row) * ROW
+        + u64::from(a.size) * SIZE
+        + u64::from(a.value)
 }

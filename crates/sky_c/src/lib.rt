@@ -1,5 +1,5 @@
-// What a host calls through C linkage: the calls of `sky`, each under its own contract, exported from a static library. A slice
-// is a pointer and a length there, and an answer is one packed number. None has a `requires`.
+//! What a host calls through C linkage: the calls of `sky`, each under its own contract, exported from a static library. A slice
+//! is a pointer and a length there, and an answer or a kind is a number: that is what C can take. None has a `requires`.
 #![tactic(auto)]
 
 ghost use Rattle.std.specs.Prelude.{◌≡◌};
@@ -17,14 +17,16 @@ pub extern "C" fn sky_check(list: &[u8]) -> u64
 
 #[unsafe(no_mangle)]
 pub extern "C" fn sky_read(list: &[u8], rows: &mut [u8]) -> u64
-    ensures { (result ≡ packed (read_call list.now rows.old).answer) × (rows.new ≡ (read_call list.now rows.old).buffer) }
+    ensures answer { result ≡ packed (read_call list.now rows.old).answer }
+    ensures buffer { rows.new ≡ (read_call list.now rows.old).buffer }
 {
     sky::sky_read(list, rows)
 }
 
 #[unsafe(no_mangle)]
 pub extern "C" fn sky_write(rows: &[u8], list: &mut [u8]) -> u64
-    ensures { (result ≡ packed (write_call rows.now list.old).answer) × (list.new ≡ (write_call rows.now list.old).buffer) }
+    ensures answer { result ≡ packed (write_call rows.now list.old).answer }
+    ensures buffer { list.new ≡ (write_call rows.now list.old).buffer }
 {
     sky::sky_write(rows, list)
 }

@@ -3,4 +3,4 @@ use Rattle.sky.proofs.Unpacked.{read_fits}
 use Rattle.sky.proofs.list.sky_read.Goals as goal
 
 pub pack-requires : goal.pack-requires
-pack-requires c = rw c.read.ensures.0 (read_fits _ _).value
+pack-requires c = rw c.read.ensures.answer (read_fits _ _).value
