@@ -39,15 +39,6 @@ module _ (d : List ℕ) (at : ℕ) where
       ∙ ap (λ (x : List ℕ). take at d ++ v ++ w ++ x) (drop-drop (length w) (at + length v) d ∙ ap (λ (k : ℕ). drop k d) ends)
       ∙ ap (λ (x : List ℕ). x ++ drop (at + length (v ++ w)) d) (append_assoc (take at d) v w)
 
--- A piece v laid at `at`, and then w where it ends, are v and w laid.
-pub join : (d d1 d2 : List ℕ) (at p : ℕ) (v w : List ℕ) → d1 ≡ laid d at v → at + length v ≡ p → p ≤ length d → d2 ≡ laid d1 p w
-    → d2 ≡ laid d at (v ++ w)
-join d d1 d2 at p v w e end room f =
-    f
-    ∙ ap (λ (x : List ℕ). laid x p w) e
-    ∙ ap (λ (k : ℕ). laid (laid d at v) k w) (sym end)
-    ∙ laid_next d at v w (omega arith)
-
 -- What is laid from the start on is followed by what the buffer held there.
 pub laid-start : (d w : List ℕ) → laid d 0 w ≡ w ++ drop (length w) d
 unfolding laid
@@ -79,6 +70,11 @@ be-bytes (suc (suc n)) v rest h =
     let low : get_or (front ++ ((v % 256) ∷ rest)) (0 + suc n) 0 ≡ v % 256 =
     ap (λ (i : ℕ). get_or (front ++ ((v % 256) ∷ rest)) i 0) (zero-add (suc n) ∙ sym (bytes_length (suc n) (v / 256))) ∙ get_or-append_seam front (v % 256) rest 0 in
     rw (cut, be-bytes (suc n) (v / 256) ((v % 256) ∷ rest) high, low) (omega arith)
+
+-- One byte is itself.
+pub bytes1 : (v : ℕ) → v < 256 → bytes 1 v ≡ v ∷ []
+unfolding bytes
+bytes1 v h = let same : v % 256 ≡ v = omega arith in rw same
 
 pub be2-bytes2 : (v : ℕ) (rest : List ℕ) → v < 65536 → be2 (bytes2 v ++ rest) 0 ≡ v
 be2-bytes2 v rest h = be-bytes 2 v rest h

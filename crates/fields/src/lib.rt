@@ -1,12 +1,11 @@
 //! Big-endian numbers of up to four bytes: read from a byte slice, and laid into one. The images are made of these.
-//! Each call asks that its place is inside the slice, as an index does: slice and place are the caller's, and differ at each
-//! call, so that no type keeps the fact for the next one.
 #![tactic(auto)]
 
 ghost use Rattle.std.specs.Prelude.{◌≡◌, ◌+◌, ◌≤◌, length};
 ghost use Rattle.fields.specs.Fields.{be, bytes, laid};
 
-/// The number of the N bytes at `at`.
+/// The number of the N bytes at `at`. That the place is inside the slice is asked, as for an index, at each call of this crate:
+/// slice and place are the caller's and differ each time, so no type would keep the fact for the next call.
 #[tactic(auto, using(crate::proofs::Words::number_read))]
 pub fn get<const N: usize>(s: &[u8], at: usize) -> u32
     requires few { N ≤ 4 }
@@ -18,7 +17,7 @@ pub fn get<const N: usize>(s: &[u8], at: usize) -> u32
     u32::from_be_bytes(word)
 }
 
-/// Lays a number's N lowest bytes into d from `at` on.
+/// Lays a number's N lowest bytes into d from `at` on, which is asked to be inside as for `get`.
 #[tactic(auto, using(crate::proofs::Words::word_bytes))]
 pub fn put<const N: usize>(d: &mut [u8], at: usize, v: u32)
     requires few { N ≤ 4 }
@@ -28,7 +27,7 @@ pub fn put<const N: usize>(d: &mut [u8], at: usize, v: u32)
     put_all(d, at, &v.to_be_bytes()[4 - N..]);
 }
 
-/// Lays all the bytes of w into d from `at` on.
+/// Lays all the bytes of w into d from `at` on, which is asked to be inside as for `get`.
 #[tactic(auto, using(crate::proofs::Words::copied))]
 pub fn put_all(d: &mut [u8], at: usize, w: &[u8])
     requires { at + length w.now ≤ length d.old }

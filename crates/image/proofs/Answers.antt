@@ -1,7 +1,7 @@
--- What an answer of number 0 says of the bytes: that no test was met. Rests on Refusals.
-use mathlib.Core.Path.{◌≡◌, refl, sym, ap, ◌∙◌}
+-- An answer of number 0 says that no test was met, and bytes that meet none are answered by their rows. Rests on Refusals.
+use mathlib.Core.Path.{◌≡◌, sym, ap, ◌∙◌}
 use mathlib.Core.List.{List}
-use mathlib.Core.Bool.{Bool, true, false, not}
+use mathlib.Core.Bool.{Bool, not}
 use Prim.Native.Nat.{ℕ, ◌+◌, ◌*◌, ◌-◌, ◌/◌, ◌%◌, ◌≤◌}
 use native.Mathlib.Omega.{arith}
 use lib.Dec.{ltb, eqb}
@@ -11,16 +11,10 @@ use Rattle.fields.specs.Fields.{be4}
 use Rattle.rules.specs.Choose.{choose}
 use Rattle.image.specs.Refusals.{refused, row_limit, row_count, row_bytes, rows_from, list_answer, rows_answer}
 use Rattle.image.specs.declared.answer.Answer.{Answer}
+use Rattle.image.proofs.Unmet.{Unmet, unmet}
 
--- A test whose refusal was not given was not met, and the answer is that of what follows.
-record Passed (b : Bool) (n : ℕ) (x : Answer) : Type 0 where
-  unmet : b ≡ false
-  ok : x.number ≡ 0
-
-passed : (b : Bool) (n : ℕ) (x : Answer) → (n ≡ 0 → ⊥) → (choose b (refused n 0) x).number ≡ 0 → Passed b n x
-unfolding choose
-passed true n x h e = absurd (h e)
-passed false n x h e = record { unmet = refl; ok = e }
+passed : (b : Bool) (n : ℕ) (x : Answer) → (n ≡ 0 → ⊥) → (choose b (refused n 0) x).number ≡ 0 → Unmet b x.number
+passed b n x = unmet (λ (a : Answer). a.number) b (refused n 0) x
 
 -- An accepted image: its first field, its version, its size, and the answer of its rows.
 pub record Accepted (s : List ℕ) : Type 0 where
@@ -34,19 +28,19 @@ pub list_accepted : (s : List ℕ) → (list_answer s).number ≡ 0 → Accepted
 unfolding list_answer
 list_accepted s e =
     let p1 = passed (ltb (length s) 7) 1 _ (omega arith) e in
-    let p2 = passed (not (eqb (be4 s 0) (length s - 4))) 2 _ (omega arith) p1.ok in
-    let p3 = passed (not (eqb (get_or s 4 0) 1)) 3 _ (omega arith) p2.ok in
-    let p4 = passed (ltb row_limit (row_count s)) 4 _ (omega arith) p3.ok in
-    let p5 = passed (not (eqb (be4 s 0) (3 + 14 * row_count s))) 5 _ (omega arith) p4.ok in
-    let long : 7 ≤ length s = ltb-false _ _ p1.unmet in
-    let field : be4 s 0 ≡ length s - 4 = eqb-true _ _ (not-false _ p2.unmet) in
-    let size : be4 s 0 ≡ 3 + 14 * row_count s = eqb-true _ _ (not-false _ p5.unmet) in
+    let p2 = passed (not (eqb (be4 s 0) (length s - 4))) 2 _ (omega arith) p1.on in
+    let p3 = passed (not (eqb (get_or s 4 0) 1)) 3 _ (omega arith) p2.on in
+    let p4 = passed (ltb row_limit (row_count s)) 4 _ (omega arith) p3.on in
+    let p5 = passed (not (eqb (be4 s 0) (3 + 14 * row_count s))) 5 _ (omega arith) p4.on in
+    let long : 7 ≤ length s = ltb-false _ _ p1.fails in
+    let field : be4 s 0 ≡ length s - 4 = eqb-true _ _ (not-false _ p2.fails) in
+    let size : be4 s 0 ≡ 3 + 14 * row_count s = eqb-true _ _ (not-false _ p5.fails) in
     record {
       field = field;
-      version = eqb-true _ _ (not-false _ p3.unmet);
-      few = ltb-false _ _ p4.unmet;
+      version = eqb-true _ _ (not-false _ p3.fails);
+      few = ltb-false _ _ p4.fails;
       whole = omega arith;
-      rows = p5.ok;
+      rows = p5.on;
     }
 
 -- Accepted rows with no image around them.
@@ -59,9 +53,9 @@ pub rows_accepted : (rs : List ℕ) → (rows_answer rs).number ≡ 0 → Accept
 unfolding rows_answer
 rows_accepted rs e =
     let p4 = passed (ltb row_limit (length rs / 14)) 4 _ (omega arith) e in
-    let p5 = passed (not (eqb (length rs % 14) 0)) 5 _ (omega arith) p4.ok in
-    let rest : length rs % 14 ≡ 0 = eqb-true _ _ (not-false _ p5.unmet) in
-    record { few = ltb-false _ _ p4.unmet; whole = omega arith; rows = p5.ok }
+    let p5 = passed (not (eqb (length rs % 14) 0)) 5 _ (omega arith) p4.on in
+    let rest : length rs % 14 ≡ 0 = eqb-true _ _ (not-false _ p5.fails) in
+    record { few = ltb-false _ _ p4.fails; whole = omega arith; rows = p5.on }
 
 -- And the other way: what meets none of the tests before the rows is answered by its rows.
 pub list_passed : (s : List ℕ) → 7 ≤ length s → be4 s 0 ≡ length s - 4 → get_or s 4 0 ≡ 1 → row_count s ≤ row_limit → be4 s 0 ≡ 3 + 14 * row_count s

@@ -1,7 +1,8 @@
--- What accepted rows are: each row that meets no refusal, told in numbers, and the jobs of such rows. Rests on Refusals.
+-- What accepted rows are: each row that meets no refusal, told in numbers, and the jobs of such rows. Rests on Refusals,
+-- Unmet and Searches.
 use mathlib.Core.Path.{◌≡◌, refl, sym, ap, subst, ◌∙◌}
 use mathlib.Core.List.{List}
-use mathlib.Core.Bool.{Bool, true, false, ◌||◌, true≢false}
+use mathlib.Core.Bool.{Bool, true, false}
 use Prim.Native.Nat.{ℕ, zero, suc, ◌+◌, ◌-◌, ◌≤◌, ◌<◌}
 use mathlib.Core.Logic.{⊎_elim}
 use native.Mathlib.Nat.{le_of_suc-le-suc, eq-or-lt_of_le}
@@ -14,21 +15,12 @@ use Rattle.rules.specs.Job.{ProperFrom, Proper}
 use Rattle.image.specs.Rows.{name_at, release_at, cost_at, deadline_at, job_at, jobs_from}
 use Rattle.image.specs.Refusals.{refused, deadline_limit, named, release_before, row_number, row_fault, rows_from}
 use Rattle.image.specs.Accepted.{job_of}
+use Rattle.image.proofs.Unmet.{Unmet, unmet}
 use Rattle.image.proofs.Searches.{release_next}
+use Rattle.std.proofs.lemmas.Bool.{or_parts}
 
--- A test whose number was not given was not met.
-record Unmet (b : Bool) (rest : ℕ) : Type 0 where
-  fails : b ≡ false
-  on : rest ≡ 0
-
-unmet : (b : Bool) (n rest : ℕ) → (n ≡ 0 → ⊥) → choose b n rest ≡ 0 → Unmet b rest
-unfolding choose
-unmet true n rest h e = absurd (h e)
-unmet false n rest h e = record { fails = refl; on = e }
-
-neither : (a b : Bool) → (a || b) ≡ false → (a ≡ false) × (b ≡ false)
-neither true b e = absurd (true≢false e)
-neither false b e = (refl, e)
+passed : (b : Bool) (n rest : ℕ) → (n ≡ 0 → ⊥) → choose b n rest ≡ 0 → Unmet b rest
+passed b n rest = unmet (λ (m : ℕ). m) b n rest
 
 module _ (rs : List ℕ) where
   -- A row that meets none of 6 to 11.
@@ -43,13 +35,13 @@ module _ (rs : List ℕ) where
   pub good : (i : ℕ) → row_fault rs i ≡ 0 → Good i
   unfolding row_fault row_number
   good i e =
-      let u6 = unmet (eqb (name_at rs i) 0) 6 _ (omega arith) e in
-      let u7 = unmet (named rs (name_at rs i) i) 7 _ (omega arith) u6.on in
-      let u8 = unmet (eqb (cost_at rs i) 0) 8 _ (omega arith) u7.on in
-      let u9 = unmet (ltb deadline_limit (deadline_at rs i)) 9 _ (omega arith) u8.on in
-      let u10 = unmet (ltb (deadline_at rs i) (release_at rs i)) 10 _ (omega arith) u9.on in
-      let u10' = unmet (ltb (deadline_at rs i - release_at rs i) (cost_at rs i)) 10 _ (omega arith) u10.on in
-      let u11 = unmet (ltb (release_at rs i) (release_before rs i)) 11 0 (omega arith) u10'.on in
+      let u6 = passed (eqb (name_at rs i) 0) 6 _ (omega arith) e in
+      let u7 = passed (named rs (name_at rs i) i) 7 _ (omega arith) u6.on in
+      let u8 = passed (eqb (cost_at rs i) 0) 8 _ (omega arith) u7.on in
+      let u9 = passed (ltb deadline_limit (deadline_at rs i)) 9 _ (omega arith) u8.on in
+      let u10 = passed (ltb (deadline_at rs i) (release_at rs i)) 10 _ (omega arith) u9.on in
+      let u10' = passed (ltb (deadline_at rs i - release_at rs i) (cost_at rs i)) 10 _ (omega arith) u10.on in
+      let u11 = passed (ltb (release_at rs i) (release_before rs i)) 11 0 (omega arith) u10'.on in
       let h8 : cost_at rs i ≡ 0 → ⊥ = eqb-false _ _ u8.fails in
       let h10 : release_at rs i ≤ deadline_at rs i = ltb-false _ _ u10.fails in
       let h10' : cost_at rs i ≤ deadline_at rs i - release_at rs i = ltb-false _ _ u10'.fails in
@@ -82,7 +74,7 @@ module _ (rs : List ℕ) where
   unfolding named
   other_names x zero e j h = absurd (omega arith)
   other_names x (suc k) e j h =
-      let n = neither (eqb (name_at rs k) x) (named rs x k) e in
+      let n = or_parts (eqb (name_at rs k) x) (named rs x k) e in
       ⊎_elim (λ (same : j ≡ k). subst (λ (m : ℕ). name_at rs m ≡ x → ⊥) (sym same) (eqb-false _ _ n.0)) (λ (below : j < k). other_names x k n.1 j below)
       (eq-or-lt_of_le (le_of_suc-le-suc h))
 

@@ -1,4 +1,5 @@
 -- Laws of list images that belong to no one function.
+pub mod Unmet
 pub mod RowArrays
 pub mod Searches
 pub mod Answers

@@ -1,4 +1,5 @@
--- The three outcomes of a call that writes: refused by the list, refused for room, done. Rests on Calls.
+-- The three outcomes of a call that writes: refused by the list, refused for room, done. Rests on Calls, Numbering and the
+-- fields' laws.
 use mathlib.Core.Path.{◌≡◌, ◌∙◌, refl, sym, ap}
 use mathlib.Core.List.{List, ◌++◌}
 use Prim.Native.Nat.{ℕ, ◌-◌, ◌≤◌, ◌<◌}

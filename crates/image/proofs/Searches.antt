@@ -1,5 +1,6 @@
--- One turn of each search over rows, as the loops take it. Rests on Refusals.
-use mathlib.Core.Path.{◌≡◌, refl, ap}
+-- One turn over the rows, as `check_rows` takes it: what a test that passed or failed says, and what is left of the rows.
+-- Rests on Refusals and Numbering.
+use mathlib.Core.Path.{◌≡◌, refl, ap, ◌∙◌}
 use mathlib.Core.List.{List}
 use Prim.Native.Nat.{ℕ, suc, ◌+◌, ◌-◌, ◌<◌, ◌≤◌}
 use native.Mathlib.Numerals.{add-one}
@@ -8,7 +9,10 @@ use borrow.Author.Tests.{ne_eqb}
 use Rattle.rules.specs.Choose.{choose}
 use Rattle.image.specs.Rows.{release_at}
 use Rattle.image.specs.Refusals.{refused, accepted, release_before, row_fault, rows_from}
-use Rattle.image.specs.Numbering.{fault_number}
+use Rattle.std.specs.Prelude.{Result, Ok, Err, true, is_ok, MatchResult, IsErrAnd}
+use Rattle.image.specs.Numbering.{fault_number, row_test}
+use Rattle.image.specs.declared.refusal.Refusal.{Refusal}
+use Rattle.image.specs.declared.refusal.Refusal.TheVariants.{Row}
 use Rattle.image.specs.declared.refusal.RowFault.{RowFault}
 use Rattle.image.specs.declared.refusal.RowFault.TheVariants.{NameZero, NameTaken, CostZero, DeadlineTooLate, TooLittleTime, ReleaseTooEarly}
 
@@ -20,6 +24,23 @@ fault_some CostZero e = absurd (omega arith)
 fault_some DeadlineTooLate e = absurd (omega arith)
 fault_some TooLittleTime e = absurd (omega arith)
 fault_some ReleaseTooEarly e = absurd (omega arith)
+
+-- A test that passed has number 0.
+pub passed_test : (r : Result Unit RowFault) → is_ok r ≡ true → row_test r ≡ 0
+passed_test (Ok x) e = refl
+passed_test (Err f) e = absurd (cc)
+
+-- One that failed, with the row's place, is the refusal.
+pub record Failed (at : ℕ) (r : Result Unit RowFault) (y : Refusal) : Type 0 where
+  pub fault : RowFault
+  pub was : r ≡ Err fault
+  pub is : y ≡ Row at fault
+
+pub failed_test : (at : ℕ) (r : Result Unit RowFault) (m : Result Unit Refusal) (y : Refusal) → m ≡ Err y → {Q : RowFault → Refusal → Type 0}
+    → MatchResult r (λ x. m ≡ Ok x) (λ e. IsErrAnd m (Q e)) → ((e : RowFault) (z : Refusal) → Q e z → z ≡ Row at e) → Failed at r y
+failed_test at (Ok x) m y was h q = absurd (cc)
+failed_test at (Err e) (Ok x) y was h q = absurd (cc)
+failed_test at (Err e) (Err z) y was h q = let same : y ≡ z = cc in record { fault = e; was = refl; is = same ∙ q e z h }
 
 -- Rows left when row i is passed.
 pub left_suc : (n i : ℕ) → i < n → n - i ≡ suc (n - (i + 1))

@@ -16,7 +16,7 @@ pub struct Answer {
     pub size: u16,
 }
 
-/// The answer of a refused call. From numbers, as its clause says, which is a public promise.
+/// The answer of a refused call. It takes numbers since its clause, a public promise, is of the definition `refused`, which does.
 pub fn refused(number: u8, row: u16) -> Answer
     ensures { result ≡ refused_answer number row }
 {
@@ -28,7 +28,7 @@ pub fn refused(number: u8, row: u16) -> Answer
     }
 }
 
-/// The answer of an accepted call. From numbers, as its clause says, which is a public promise.
+/// The answer of an accepted call. It takes numbers as `refused` does, for the definition `accepted`.
 pub fn accepted(value: u32, size: u16) -> Answer
     ensures { result ≡ accepted_answer value size }
 {
@@ -50,7 +50,7 @@ impl From<Refusal> for Answer {
             Refusal::WrongVersion => refused(3, 0),
             Refusal::TooManyRows => refused(4, 0),
             Refusal::WrongSize => refused(5, 0),
-            Refusal::Row { row, fault } => refused(fault.number(), row),
+            Refusal::Row { row, fault } => refused(fault.into(), row),
             Refusal::NoRoom => refused(12, 0),
         }
     }

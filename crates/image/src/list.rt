@@ -1,5 +1,5 @@
 //! The three calls on list images. Each answers, and leaves its buffer, as specs/Refusals and specs/Calls say in document 01's
-//! numbers, for every byte string. Every cast by `as` is proved to lose nothing; `try_from` would bring an error that cannot come.
+//! numbers, for every byte string.
 ghost use Rattle.std.specs.Prelude.{◌≡◌, ◌++◌, ◌+◌, ◌≤◌, length, drop};
 ghost use Rattle.image.specs.Refusals.{list_answer, rows_answer};
 ghost use Rattle.image.specs.Calls.{image_of, read_call, write_call};
@@ -12,6 +12,9 @@ use crate::rows::check_rows;
 /// The count of bytes before an image's rows.
 const HEADER_SIZE: usize = 7;
 
+/// The one version of an image.
+const VERSION: u8 = 1;
+
 /// A list has at most this many rows.
 const ROW_LIMIT: usize = 64;
 
@@ -23,11 +26,12 @@ pub fn check(list: &[u8]) -> Result<(), Refusal>
     if list.len() < HEADER_SIZE {
         return Err(Refusal::TooShort);
     }
+    // This and every other cast here is proved to lose nothing; `try_from` would bring an error that cannot come.
     let first = fields::get::<4>(list, 0) as usize;
     if first != list.len() - 4 {
         return Err(Refusal::WrongCount);
     }
-    if list[4] != 1 {
+    if list[4] != VERSION {
         return Err(Refusal::WrongVersion);
     }
     let n = fields::get::<2>(list, 5) as usize;
@@ -67,18 +71,21 @@ pub fn read(list: &[u8], rows: &mut [u8]) -> Result<u16, Refusal>
         return Err(Refusal::NoRoom);
     }
     fields::put_all(rows, 0, &list[HEADER_SIZE..]);
+    // Proved to fit, so `as` and not `try_from`.
     Ok(size as u16)
 }
 
 /// Lays the image of rows into a buffer that has room for it: header first, then the rows.
 #[tactic(auto, using(crate::proofs::Laying::image_laid))]
 fn lay_image(rows: &[u8], list: &mut [u8])
-    requires { (7 + length rows.now ≤ length list.old) × (length rows.now ≤ 896) }
+    requires room { 7 + length rows.now ≤ length list.old }
+    requires few { length rows.now ≤ 896 }
     ensures { list.new ≡ image_of rows.now ++ drop (7 + length rows.now) list.old }
 {
+    // Both sizes are proved to fit, so `as` and not `try_from`.
     let size = rows.len();
     fields::put::<4>(list, 0, (3 + size) as u32);
-    fields::put::<1>(list, 4, 1);
+    fields::put::<1>(list, 4, VERSION.into());
     fields::put::<2>(list, 5, (size / ROW_SIZE) as u32);
     fields::put_all(list, HEADER_SIZE, rows);
 }
@@ -94,5 +101,6 @@ pub fn write(rows: &[u8], list: &mut [u8]) -> Result<u16, Refusal>
         return Err(Refusal::NoRoom);
     }
     lay_image(rows, list);
+    // Proved to fit, so `as` and not `try_from`.
     Ok(size as u16)
 }

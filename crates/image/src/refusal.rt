@@ -24,12 +24,11 @@ pub enum RowFault {
     ReleaseTooEarly = 11,
 }
 
-impl RowFault {
-    /// The refusal's number.
-    pub fn number(self) -> u8
-        ensures { result ≡ fault_number self }
-    {
-        self as u8
+impl From<RowFault> for u8 {
+    ghost from_gives = { λ fault number. number ≡ fault_number fault };
+
+    fn from(fault: RowFault) -> u8 {
+        fault as u8
     }
 }
 

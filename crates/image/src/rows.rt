@@ -1,5 +1,4 @@
-//! The first row that has a fault, and the fault, of rows that stand one behind the other. The cast of a row's place is proved
-//! to lose nothing; `try_from` would bring an error that cannot come.
+//! The first row that has a fault, and the fault, of rows that stand one behind the other.
 ghost use Rattle.std.specs.Prelude.{◌≡◌, ◌==◌, ◌<◌, length};
 ghost use Rattle.std.specs.List.{concat, list_any};
 ghost use Rattle.fields.specs.Fields.{be};
@@ -26,12 +25,10 @@ pub(crate) fn check_rows(rows: &[Row]) -> Result<(), Refusal>
     for (i, row) in rows.iter().enumerate() {
         let job = Job::from(row);
         let taken = named(&rows[..i], job.name);
-        if let Err(fault) = job.check(taken, before) {
-            return Err(Refusal::Row {
-                row: (i + 1) as u16,
-                fault,
-            });
-        }
+        // Proved to fit, so `as` and not `try_from`.
+        let at = (i + 1) as u16;
+        job.check(taken, before)
+            .map_err(|fault| Refusal::Row { row: at, fault })?;
         before = job.release;
     }
     Ok(())

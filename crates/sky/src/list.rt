@@ -1,5 +1,5 @@
-//! Lists: checked, read and written, for hosts. So every answer here is in numbers and not a `Result`: as a struct, or, for C,
-//! packed into one number.
+//! Lists: checked, read and written, for hosts, to whom document 01 promises numbers: an answer is a struct of four, or, for C,
+//! one packed number.
 ghost use Rattle.std.specs.Prelude.{◌≡◌};
 ghost use Rattle.image.specs.Refusals.{list_answer};
 ghost use Rattle.image.specs.Calls.{read_call, write_call};
@@ -8,14 +8,14 @@ ghost use Rattle.sky.specs.Packed.{packed};
 use crate::packed::pack;
 use image::Answer;
 
-/// Whether a byte string is an accepted list, or why not. The answer is in numbers, which `sky_check` packs for C.
+/// Whether a byte string is an accepted list, or why not. The answer is the struct of numbers that hosts rely on.
 pub fn check(list: &[u8]) -> Answer
     ensures { result ≡ list_answer list.now }
 {
     image::check(list).into()
 }
 
-/// Gives an accepted image's rows back, 14 bytes each. The answer is in numbers, which `sky_read` packs for C.
+/// Gives an accepted image's rows back, 14 bytes each. The answer is the struct of numbers that hosts rely on.
 pub fn read(list: &[u8], rows: &mut [u8]) -> Answer
     ensures answer { result ≡ (read_call list.now rows.old).answer }
     ensures buffer { rows.new ≡ (read_call list.now rows.old).buffer }
@@ -23,7 +23,7 @@ pub fn read(list: &[u8], rows: &mut [u8]) -> Answer
     image::read(list, rows).into()
 }
 
-/// Writes the image of rows that are given as bytes, 14 each. The answer is in numbers, which `sky_write` packs for C.
+/// Writes the image of rows that are given as bytes, 14 each. The answer is the struct of numbers that hosts rely on.
 pub fn write(rows: &[u8], list: &mut [u8]) -> Answer
     ensures answer { result ≡ (write_call rows.now list.old).answer }
     ensures buffer { list.new ≡ (write_call rows.now list.old).buffer }

@@ -11,7 +11,7 @@ const ROW: u64 = 1 << 40;
 
 const SIZE: u64 = 1 << 24;
 
-/// The answer packed. A value has 24 bits of room, which no run's value exceeds.
+/// The answer packed into the number that C gets. A value has 24 bits of room, which no run's value exceeds.
 #[tactic(auto, unfolding(crate::specs::Packed::packed))]
 pub(crate) fn pack(a: Answer) -> u64
     requires { a.value < 2 ^ 24 }

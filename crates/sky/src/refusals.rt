@@ -12,7 +12,7 @@ pub enum RefusalKind {
 }
 
 impl RefusalKind {
-    /// The kind of the refusal with a number.
+    /// The kind of the refusal with a number. It is no `From<u8>`, which would read as the way back from a kind's own number.
     #[tactic(auto, using(crate::proofs::KindRanges::ranges))]
     pub fn of(number: u8) -> RefusalKind
         ensures { kind_number result ≡ kind_of number }
@@ -24,20 +24,22 @@ impl RefusalKind {
             _ => RefusalKind::Other,
         }
     }
+}
 
-    /// The kind's own number.
-    pub fn number(self) -> u8
-        ensures { result ≡ kind_number self }
-    {
-        self as u8
+impl From<RefusalKind> for u8 {
+    ghost from_gives = { λ kind number. number ≡ kind_number kind };
+
+    fn from(kind: RefusalKind) -> u8 {
+        kind as u8
     }
 }
 
-/// 1 for an image fault, 2 for a row fault, 3 for room, 0 for every other number. Numbers in and out, for C.
+/// 1 for an image fault, 2 for a row fault, 3 for room, 0 for every other number. It takes and gives numbers
+/// since its clause, a public promise, is of the definition `kind_of`, which does.
 pub fn kind(number: u8) -> u8
     ensures { result ≡ kind_of number }
 {
-    RefusalKind::of(number).number()
+    RefusalKind::of(number).into()
 }
 
 /// `kind`, under the name that `sky_c` exports to C.
