@@ -1,5 +1,5 @@
 -- Why the demands hold, heading by heading. Main proves all that specs/Demands promises; every other module gives one step of
--- the argument, rests on modules named above it, and says on which.
+-- the argument, rests on modules named above it, and says on which it mainly rests.
 
 -- The terms of the demands, tried by computation.
 pub mod SmallPlans

@@ -1,5 +1,5 @@
 -- By computation alone: each small plan earns what is told of it, its list's run has the value told, and its list the bound told.
--- And the demands tried where they hold with nothing to spare, so that none of them can be sharpened. Rests on the definitions only.
+-- And demands tried where they hold with nothing to spare, so that those cannot be sharpened. Rests on the definitions only.
 use Prim.Native.Nat.{ℕ}
 use native.Mathlib.Omega.{arith}
 use mathlib.Core.Path.{◌≡◌, refl, sym, ◌∙◌}

@@ -6,7 +6,7 @@ use Rattle.rules.specs.SmallRuns.{job}
 use Rattle.promises.specs.Plan.{Plan}
 use Rattle.promises.specs.SmallPlans.{up_to, in_shares}
 
--- Jobs 1, 3 to 11 are a chain without slack: each is released at the last tick of the one before and costs one more than twice
+-- Jobs 1, 3, 5, 7, 9 and 11 are a chain without slack: each is released at the last tick of the one before and costs one more than twice
 -- as much, so it takes over. Beside each stands a filler without slack that costs one tick less: it is dropped. So is job 13,
 -- released at the last tick of the chain, which costs exactly twice as much as job 11. The run finishes job 11 alone.
 abbrev pub chain : List Job

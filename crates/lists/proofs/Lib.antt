@@ -1,0 +1,2 @@
+-- Why the promises hold of bytes.
+pub mod Main

@@ -1,0 +1,2 @@
+-- The promises of an accepted list, told of its bytes.
+pub mod Lists
