@@ -4,8 +4,8 @@
 ghost use Rattle.std.specs.Prelude.{◌≡◌, ◌+◌, ◌≤◌, length};
 ghost use Rattle.fields.specs.Fields.{be, bytes, laid};
 
-/// The number of the N bytes at `at`. That the place is inside the slice is asked, as for an index, at each call of this crate:
-/// slice and place are the caller's and differ each time, so no type would keep the fact for the next call.
+/// The number of the N bytes at `at`, a place and no length. That it is inside the slice is asked, as for an index, at each call of
+/// this crate. A type would be no plainer: slice and place are the caller's and differ each time, so it kept nothing for the next call.
 #[tactic(auto, using(crate::proofs::Words::number_read))]
 pub fn get<const N: usize>(s: &[u8], at: usize) -> u32
     requires few { N ≤ 4 }

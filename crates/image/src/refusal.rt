@@ -28,6 +28,7 @@ impl From<RowFault> for u8 {
     ghost from_gives = { λ fault number. number ≡ fault_number fault };
 
     fn from(fault: RowFault) -> u8 {
+        // No plainer form: so the language gives an enum's number.
         fault as u8
     }
 }

@@ -17,6 +17,7 @@ impl RefusalKind {
     pub fn of(number: u8) -> RefusalKind
         ensures { kind_number result ≡ kind_of number }
     {
+        // Document 01 asks for one match with ranges and a default case.
         match number {
             1..=5 => RefusalKind::Image,
             6..=11 => RefusalKind::Row,
@@ -30,6 +31,7 @@ impl From<RefusalKind> for u8 {
     ghost from_gives = { λ kind number. number ≡ kind_number kind };
 
     fn from(kind: RefusalKind) -> u8 {
+        // No plainer form: so the language gives an enum's number.
         kind as u8
     }
 }
