@@ -61,7 +61,7 @@ fn rows_agree(rows: &[u8], rng: &mut Rng, written: &mut Seen) {
 
 #[test]
 fn random_images() {
-    let count = setting("SKY_LISTS", 240_000) / 2;
+    let count = setting("SKY_LISTS", 400_000) / 2;
     println!("{count} images of seed {}", seed());
     let (mut checked, mut read) = ([0; 13], [0; 13]);
     for index in 0..count {
@@ -83,7 +83,7 @@ fn random_images() {
 
 #[test]
 fn random_rows() {
-    let count = setting("SKY_LISTS", 240_000) / 2;
+    let count = setting("SKY_LISTS", 400_000) / 2;
     println!("{count} raw rows of seed {}", seed());
     let mut written = [0; 13];
     for index in 0..count {
