@@ -1,0 +1,2 @@
+-- Laws of the view.
+pub mod Views
