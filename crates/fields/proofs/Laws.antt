@@ -1,15 +1,36 @@
--- Two pieces laid side by side are one piece, and a number laid is the number read back. Rests on the fields' definitions and the library's laws of lists.
+-- Stores one after the other are bytes laid at a place; two pieces laid side by side are one piece; and a number laid is the
+-- number read back. Rests on the fields' definitions and the library's laws of lists.
 use mathlib.Core.Path.{◌≡◌, refl, sym, ap, ◌∙◌}
 use mathlib.Core.List.{List, [], ◌∷◌, ◌++◌, append_assoc}
 use Prim.Native.Nat.{ℕ, zero, suc, ◌^◌, ◌+◌, ◌-◌, ◌*◌, ◌/◌, ◌%◌, ◌≤◌, ◌<◌}
-use native.Mathlib.Numerals.{add-one}
+use native.Mathlib.Numerals.{towards_suc, add-one}
 use native.Mathlib.Nat.{zero-add, add-zero, pow-suc}
 use native.Mathlib.Omega.{arith}
-use lib.ListN.{length, get_or, take, drop, length-append, length-drop}
-use lib.Seq.{paste, length-paste, length-take-le, take_all, take-length, take_at, drop_at, drop-drop, drop-cons, get_or-append_seam}
+use lib.ListN.{length, get_or, set, take, drop, length-append, length-drop}
+use lib.Seq.{paste-suc, sets-eq, paste, length-paste, length-take-le, take_all, take-length, take_at, drop_at, drop-drop, drop-cons, get_or-append_seam}
 use Rattle.fields.specs.Fields.{be, be2, be4, bytes, bytes2, bytes4, laid}
 
--- A copy of all of w is w laid.
+-- Stores one after the other are bytes laid too: of one byte, of two and of four;
+pub lay1 : (d : List ℕ) (at v : ℕ) → at + 1 ≤ length d → set d at v ≡ laid d at (v ∷ [])
+unfolding laid
+lay1 d at v h = sets-eq (v ∷ []) d at h
+
+pub lay2 : (d : List ℕ) (at v : ℕ) → at + 2 ≤ length d → set (set d at (v / 256 % 256)) (at + 1) (v % 256) ≡ laid d at (bytes2 v)
+unfolding bytes laid
+lay2 d at v h = simp towards_suc (simp towards_suc at (sets-eq ((v / 256 % 256) ∷ (v % 256) ∷ []) d at h))
+
+pub lay4 : (d : List ℕ) (at v : ℕ) → at + 4 ≤ length d
+    → set (set (set (set d at (v / 256 / 256 / 256 % 256)) (at + 1) (v / 256 / 256 % 256)) (at + 2) (v / 256 % 256)) (at + 3) (v % 256) ≡ laid d at (bytes4 v)
+unfolding bytes laid
+lay4 d at v h = simp towards_suc (simp towards_suc at (sets-eq ((v / 256 / 256 / 256 % 256) ∷ (v / 256 / 256 % 256) ∷ (v / 256 % 256) ∷ (v % 256) ∷ []) d at h))
+
+-- and so is a copy, byte by byte: one byte more of it,
+pub lay_more : (d : List ℕ) (at : ℕ) (w : List ℕ) (i : ℕ) (x : List ℕ) → at + length w ≤ length d → i < length w → x ≡ paste d at w i
+    → set x (at + i) (get_or w i 0) ≡ paste d at w (i + 1)
+lay_more d at w i x room inside e =
+    rw (e, add-one i) (paste-suc d at w i 0 (omega arith) inside)
+
+-- and all of it.
 pub lay_all : (d : List ℕ) (at : ℕ) (w : List ℕ) → paste d at w (length w) ≡ laid d at w
 unfolding laid
 lay_all d at w = rw (take-length w)
@@ -38,6 +59,15 @@ module _ (d : List ℕ) (at : ℕ) where
       behind (take at d ++ v) rest w (at + length v) size
       ∙ ap (λ (x : List ℕ). take at d ++ v ++ w ++ x) (drop-drop (length w) (at + length v) d ∙ ap (λ (k : ℕ). drop k d) ends)
       ∙ ap (λ (x : List ℕ). x ++ drop (at + length (v ++ w)) d) (append_assoc (take at d) v w)
+
+-- A piece v laid at `at`, and then w where it ends, are v and w laid.
+pub join : (d d1 d2 : List ℕ) (at p : ℕ) (v w : List ℕ) → d1 ≡ laid d at v → at + length v ≡ p → p ≤ length d → d2 ≡ laid d1 p w
+    → d2 ≡ laid d at (v ++ w)
+join d d1 d2 at p v w e end room f =
+    f
+    ∙ ap (λ (x : List ℕ). laid x p w) e
+    ∙ ap (λ (k : ℕ). laid (laid d at v) k w) (sym end)
+    ∙ laid_next d at v w (omega arith)
 
 -- What is laid from the start on is followed by what the buffer held there.
 pub laid-start : (d w : List ℕ) → laid d 0 w ≡ w ++ drop (length w) d
