@@ -83,6 +83,7 @@ unfolding entries_of
 pushed k r t m rs ts ms h i j =
     rw (add-one k, get_or-set_same rs, get_or-set_same ts, get_or-set_same ms, entries_below k k r t m rs ts ms (omega arith))
 
+-- A fate is displaced as the rules displace it,
 same_fate : (f : Fate) → fate_of (displaced_fate f) ≡ displaced (fate_of f)
 unfolding displaced
 same_fate Waiting = refl
@@ -90,6 +91,7 @@ same_fate Taken = refl
 same_fate (Finished t) = refl
 same_fate (Dropped t) = refl
 
+-- and so are rows.
 pub displaced_rows : (js : List Job) (ls : List ℕ) (fs : List Fate) → rows_of js ls (map displaced_fate fs) ≡ map displace (rows_of js ls fs)
 unfolding rows_of displace
 displaced_rows [] ls fs = refl

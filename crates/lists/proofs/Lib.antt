@@ -1,2 +1,3 @@
 -- Why the promises hold of bytes.
+pub mod Refused
 pub mod Main
