@@ -30,6 +30,11 @@ pub lay_more : (d : List ℕ) (at : ℕ) (w : List ℕ) (i : ℕ) (x : List ℕ)
 lay_more d at w i x room inside e =
     rw (e, add-one i) (paste-suc d at w i 0 (omega arith) inside)
 
+-- whichever way its place is told,
+pub lay_next : (d : List ℕ) (at : ℕ) (w : List ℕ) (i k : ℕ) (x : List ℕ) → at + length w ≤ length d → i < length w → k ≡ at + i → x ≡ paste d at w i
+    → set x k (get_or w i 0) ≡ paste d at w (i + 1)
+lay_next d at w i k x room inside place e = rw place (lay_more d at w i x room inside e)
+
 -- and all of it.
 pub lay_all : (d : List ℕ) (at : ℕ) (w : List ℕ) → paste d at w (length w) ≡ laid d at w
 unfolding laid

@@ -27,11 +27,14 @@ pub fn put<const N: usize>(d: &mut [u8], at: usize, v: u32)
     put_all(d, at, &v.to_be_bytes()[4 - N..]);
 }
 
-/// Lays all the bytes of w into d from `at` on, which is asked to be inside as for `get`.
-#[tactic(auto, using(crate::proofs::Words::copied))]
+/// Lays all the bytes of w into d from `at` on, which is asked to be inside as for `get`. Byte by byte: the library's copy of a
+/// slice can call the C library's `memmove`, and the archive for C needs no name from outside.
+#[tactic(auto, using(crate::proofs::Laws::lay_next))]
 pub fn put_all(d: &mut [u8], at: usize, w: &[u8])
     requires { at + length w.now ≤ length d.old }
     ensures { d.new ≡ laid d.old at w.now }
 {
-    d[at..at + w.len()].copy_from_slice(w);
+    for (i, byte) in w.iter().enumerate() {
+        d[at + i] = *byte;
+    }
 }

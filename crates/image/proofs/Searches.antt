@@ -63,10 +63,14 @@ module _ (rs : List ℕ) where
   rows_on n i h e = rw (left_suc n i h, e)
 
   -- Row i meets one: it is the answer.
-  pub rows_stop : (n i : ℕ) (f : RowFault) → i < n → fault_number f ≡ row_fault rs i
-      → rows_from rs (n - i) i ≡ refused (fault_number f) (i + 1)
+  pub rows_stop : (n i : ℕ) → i < n → (row_fault rs i ≡ 0 → ⊥) → rows_from rs (n - i) i ≡ refused (row_fault rs i) (i + 1)
   unfolding rows_from choose
-  rows_stop n i f h e = rw (left_suc n i h, ← e, ne_eqb (fault_number f) 0 (fault_some f))
+  rows_stop n i h e = rw (left_suc n i h, ne_eqb (row_fault rs i) 0 e)
+
+  -- So it is where the fault of row i is f.
+  pub rows_refused : (n i : ℕ) (f : RowFault) → i < n → fault_number f ≡ row_fault rs i
+      → rows_from rs (n - i) i ≡ refused (fault_number f) (i + 1)
+  rows_refused n i f h e = rw e (rows_stop n i h (λ z. fault_some f (e ∙ z)))
 
   -- No row is left.
   pub rows_end : (n i : ℕ) → n ≤ i → rows_from rs (n - i) i ≡ accepted 0 0
