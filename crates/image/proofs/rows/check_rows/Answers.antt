@@ -28,6 +28,7 @@ loop-i-preserved c =
     let none = sym (passed_test c.check.result (sym c.map_err.ensures.variant ∙ ap is_ok c.in_ok-map_err.was)) ∙ c.check.ensures ∙ test in
     let job = c.job-in-loop-i.view_is ∙ c.from-job.ensures ∙ sym (job-row rows c.told-rows i.i c.loop-i-test.true) in
     let next = ap (λ (j : Job). j.release) job ∙ sym (release_next (concat rows) i.i) in
+    -- Not `next` itself, though it is proof enough: so a body that comes to the release in another way is judged by the release.
     record {
       left = sym (rows_on (concat rows) _ i.i c.loop-i-test.true (sym none)) ∙ i.invariant.left;
       before = grind (arith, next);
